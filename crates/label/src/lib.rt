@@ -1,6 +1,5 @@
 // Reads pallet labels: a header of entries, each of which names a part of the label, comes out as a list of fields.
 ghost use mathlib.Core.Path.{_≡_};
-ghost use mathlib.Core.Bool.{true};
 ghost use Prim.Native.Nat.{ℕ, _+_, _*_, _≤_, _<_};
 ghost use lib.ListN.{length, take, drop, getD};
 ghost use Rattle.std.specs.Results.{Cases};
