@@ -1,0 +1,17 @@
+pub mod Iff
+pub mod Words
+pub mod Ranges
+pub mod Written
+pub mod Rests
+pub mod Reading
+pub mod Tails
+pub mod Reachable
+pub mod Numbered
+pub mod Places
+pub mod Orders
+pub mod Endings
+pub mod Longest
+pub mod Jumps
+pub mod Bits
+pub mod Unions
+pub mod Sets
