@@ -5,6 +5,7 @@ ghost use lib.ListN.{length, take, drop, getD};
 ghost use Rattle.std.specs.Results.{Cases};
 ghost use Rattle.label.specs.Labels.{field, entry, count, isWithin, Headed, Sound};
 ghost use Rattle.label.specs.Reading.{Refused, Unsound, Reads};
+use engine::Symbol;
 use refusal::Fault;
 use std::fmt;
 
@@ -14,6 +15,15 @@ pub struct Field {
     pub identifier: u8,
     pub offset: u16,
     pub length: u8,
+}
+
+/// A field's code is its identifier, so that labels are searched like notes.
+pub impl Symbol for Field as FieldSymbol {
+    ghost code = { λ f. f .identifier };
+
+    fn code(&self) -> u8 {
+        self.identifier
+    }
 }
 
 /// The identifier, the offset and the length, with blanks between: `10 6 2`.
