@@ -1,0 +1,6 @@
+pub mod Leftward
+pub mod Writing
+pub mod Moving
+pub mod Running
+pub mod Asides
+pub mod Making

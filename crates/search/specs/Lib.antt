@@ -1,0 +1,5 @@
+pub mod Rules
+pub mod Calls
+pub mod Reckoning
+pub mod ListTheorem
+pub mod Performing
