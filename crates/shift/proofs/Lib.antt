@@ -1,0 +1,6 @@
+mod Spelt
+mod Firsts
+mod Steps
+mod Chains
+mod Good
+mod Final
