@@ -1,0 +1,6 @@
+mod Expressions
+mod Refusals
+mod Numbers
+mod Searches
+mod Labels
+mod Cases
