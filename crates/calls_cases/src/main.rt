@@ -49,7 +49,7 @@ fn lines(rt: &LibcRuntime) -> Result<(), AnyError> {
     case(rt, b"ab\ntable 3")?;
     case(rt, b"ab")?;
     case(rt, b"ab\ntable 65537\n\nab")?;
-    case(rt, b"ab\ntable 3\nstep single\nstep tabled\n\nab")?;
+    case(rt, b"ab\ntable 3\nstep single\nstep table\n\nab")?;
     case(rt, b"ab\ntable 3\nrun single 4294967296\n\nab")?;
     case(rt, b"ab\ntable 3\nmove \n\nab")?;
     Ok(())

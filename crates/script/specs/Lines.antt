@@ -25,10 +25,11 @@ pub record Decimal (limit : ℕ) (bytes : List ℕ) (n : ℕ) : Type 0 where
   pub value-is : n ≡ value 0 bytes
   pub small : n ≤ limit
 
--- engine 0 is `single`
-pub record Names (bytes : List ℕ) (e : ℕ) : Type 0 where
-  pub name : bytes ≡ codes "single"
-  pub number : e ≡ 0
+-- engine 0 is `single`, 1 is `tabled` and 2 is `word`
+pub data Names (bytes : List ℕ) (e : ℕ) : Type 0 where
+  single : bytes ≡ codes "single" → e ≡ 0 → Names bytes e
+  tabled : bytes ≡ codes "tabled" → e ≡ 1 → Names bytes e
+  word : bytes ≡ codes "word" → e ≡ 2 → Names bytes e
 
 -- `step ENGINE`, `run ENGINE BUDGET`, `clear`, `move PLACE`; numbers have 32 bits
 abbrev pub Writes : List ℕ → Call → Type 0

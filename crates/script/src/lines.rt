@@ -40,15 +40,27 @@ fn decimal(bytes: &[u8], limit: u32) -> Option<u32>
 fn engine_named(name: &[u8]) -> Option<usize>
     ensures { λ r. ⌜ BySome r ((e : ℕ) → Names (now (name .entry)) e → ⊥) (λ e. Names (now (name .entry)) e) ⌝ }
 {
-    if name == b"single" { Some(0) } else { None }
+    if name == b"single" {
+        return Some(0);
+    }
+    if name == b"tabled" {
+        return Some(1);
+    }
+    if name == b"word" { Some(2) } else { None }
 }
 
 // An engine's name and a blank, and what stands behind them.
 fn engine_then(bytes: &[u8]) -> Option<(usize, &[u8])>
     ensures { λ r. ⌜ BySome r ((name rest : List ℕ) (e : ℕ) → now (bytes .entry) ≡ name ++ (32 ∷ rest) → Names name e → ⊥) (λ x. (name : List ℕ) × (now (bytes .entry) ≡ name ++ (32 ∷ x .1 .now)) × Names name (x .0)) ⌝ }
 {
-    match after(bytes, b"single ") {
-        Some(rest) => Some((0, rest)),
+    if let Some(rest) = after(bytes, b"single ") {
+        return Some((0, rest));
+    }
+    if let Some(rest) = after(bytes, b"tabled ") {
+        return Some((1, rest));
+    }
+    match after(bytes, b"word ") {
+        Some(rest) => Some((2, rest)),
         None => None,
     }
 }

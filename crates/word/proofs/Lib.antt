@@ -1,3 +1,3 @@
 mod Ends
 mod Aligned
-mod Plain
+pub mod Plain
