@@ -26,7 +26,7 @@ fn stirred(seed: u32) -> u32 {
     seed.wrapping_mul(1_664_525).wrapping_add(1_013_904_223)
 }
 
-pub fn note(heap: Global, length: usize) -> Result<Vec<u8>, AllocError> {
+pub(crate) fn note(heap: Global, length: usize) -> Result<Vec<u8>, AllocError> {
     let mut text = Vec::new(heap);
     let mut seed: u32 = 7;
     for _ in 0..length {

@@ -4,7 +4,7 @@ ghost use Prim.Native.Nat.{_≤_};
 ghost use Rattle.listing.specs.Input.{Parted};
 
 // The expression and the text; without a line feed all of it is the expression, and the text is empty.
-pub fn parted(bytes: &[u8]) -> (&[u8], &[u8])
+pub(crate) fn parted(bytes: &[u8]) -> (&[u8], &[u8])
     ensures parts { λ r. ⌜ Parted (now (bytes .entry)) (now (r .0)) (now (r .1)) ⌝ }
     ensures within { λ r. ⌜ length (now (r .1)) ≤ length (now (bytes .entry)) ⌝ }
 {

@@ -17,7 +17,7 @@ use tabled::TabledEngine;
 // As many entries as matches can end at one place of a text of 4,096 symbols.
 const ROOM: usize = 4097;
 
-pub fn list(heap: Global, expression: &[u8], text: &[u8]) -> Result<Listing, Fault>
+pub(crate) fn list(heap: Global, expression: &[u8], text: &[u8]) -> Result<Listing, Fault>
     requires { ⌜ length (now text) ≤ 4096 ⌝ }
     ensures { λ r. ⌜ Found (now (expression .entry)) (now (text .entry)) r ⌝ }
 {

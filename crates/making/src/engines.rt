@@ -28,7 +28,7 @@ fn is_word(call: Call) -> bool
 }
 
 // Whether some call names the word engine.
-pub fn names_word(calls: &[Call]) -> bool
+pub(crate) fn names_word(calls: &[Call]) -> bool
     ensures { λ b. ⌜ b ≡ asks-word (now (calls .entry)) ⌝ }
 {
     for i in 0..calls.len() {
@@ -39,14 +39,14 @@ pub fn names_word(calls: &[Call]) -> bool
     false
 }
 
-pub fn single_of(heap: Global, bytes: &[u8]) -> Result<SingleStep, Fault>
+pub(crate) fn single_of(heap: Global, bytes: &[u8]) -> Result<SingleStep, Fault>
     ensures { λ r. ⌜ Cases r (SingleOf (now (bytes .entry))) (Unread (now (bytes .entry))) ⌝ }
 {
     let expression = read(heap, Mode::Bytes, bytes)?;
     SingleStep::new(heap, expression)
 }
 
-pub fn tabled_of(heap: Global, bytes: &[u8]) -> Result<Tabled, Fault>
+pub(crate) fn tabled_of(heap: Global, bytes: &[u8]) -> Result<Tabled, Fault>
     ensures { λ r. ⌜ Cases r (TabledOf (now (bytes .entry))) (Unread (now (bytes .entry))) ⌝ }
 {
     let expression = read(heap, Mode::Bytes, bytes)?;
@@ -61,7 +61,7 @@ fn word_of(heap: Global, bytes: &[u8]) -> Result<Word, Fault>
 }
 
 // The word engine where it is asked for, and else one more single-step engine, which serves an expression that is no word too.
-pub fn last_of(
+pub(crate) fn last_of(
     heap: Global,
     bytes: &[u8],
     asked: bool,

@@ -27,7 +27,7 @@ fn tally<E: Engine>(engine: &E, state: E::State) -> u32
 }
 
 // Reads leftwards from the place as long as what is read is a tail, and counts the matches that end there.
-pub fn walk<S: Symbol, E: Engine>(engine: &E, text: &[S], place: u32) -> Walked
+pub(crate) fn walk<S: Symbol, E: Engine>(engine: &E, text: &[S], place: u32) -> Walked
     requires { ⌜ place ≤ length (now text) ⌝ ∗ ⌜ length (now text) ≤ 65535 ⌝ }
     ensures count { λ w. ⌜ w .count ≡ length (ending (expression (now (engine .entry))) (map code (now (text .entry))) place) ⌝ }
     ensures jump { λ w. ⌜ w .jump ≡ shift (now (engine .entry)) (longest (expression (now (engine .entry))) (map code (now (text .entry))) place) ⌝ }
@@ -79,7 +79,7 @@ fn write<S: Symbol, E: Engine>(engine: &E, text: &[S], place: u32, room: &mut [M
 }
 
 // Writes what there is to write behind the filled part of the table.
-pub fn add<S: Symbol, E: Engine>(
+pub(crate) fn add<S: Symbol, E: Engine>(
     engine: &E,
     text: &[S],
     place: u32,

@@ -46,7 +46,7 @@ fn hold(held: &mut [u64], codes: &[bool], position: u32)
 }
 
 // Numbers the positions of the part from `at + 1` on, and notes for each which may stand before it, and for each code which hold it.
-pub fn fill(node: &Node, at: u32, arrows: &mut [u64], held: &mut [u64]) -> Ends
+pub(crate) fn fill(node: &Node, at: u32, arrows: &mut [u64], held: &mut [u64]) -> Ends
     requires { ⌜ at + size (language (now node)) < length (now arrows) ⌝ ∗ ⌜ length (now arrows) ≤ 64 ⌝ ∗ ⌜ length (now held) ≡ 256 ⌝ }
     ensures { λ e. ⌜ Filled (language (now (node .entry))) at (now (arrows .entry)) (now (arrows .exit)) (now (held .entry)) (now (held .exit)) e ⌝ }
 {

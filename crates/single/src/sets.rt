@@ -3,7 +3,7 @@ ghost use lib.ListN.{length};
 ghost use Rattle.regular.specs.Sets.{followed};
 
 // The union of the rows whose numbers the set holds.
-pub fn union(rows: &[u64], set: u64) -> u64
+pub(crate) fn union(rows: &[u64], set: u64) -> u64
     ensures { λ r. ⌜ r ≡ followed (now (rows .entry)) set (length (now (rows .entry))) ⌝ }
 {
     let mut all = 0;

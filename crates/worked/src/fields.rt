@@ -49,7 +49,7 @@ fn list(heap: Global, expression: &[u8]) -> Result<Listing, Fault> {
     list_all(heap, &fields, &engine, 5)
 }
 
-pub fn run(rt: &LibcRuntime) -> Result<(), AnyError> {
+pub(crate) fn run(rt: &LibcRuntime) -> Result<(), AnyError> {
     println!(rt, "label")?;
     match list(rt.alloc(), b"<01><10>") {
         Ok(listing) => {

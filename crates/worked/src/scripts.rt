@@ -9,7 +9,7 @@ fn cut(bytes: &[u8], length: usize) -> Option<(&[u8], &[u8])> {
     }
 }
 
-pub fn next_script(bytes: &[u8]) -> Option<(&[u8], &[u8])> {
+pub(crate) fn next_script(bytes: &[u8]) -> Option<(&[u8], &[u8])> {
     let rest = bytes.strip_prefix(b"input ")?;
     let mut length: usize = 0;
     for i in 0..rest.len() {
