@@ -1,5 +1,8 @@
 // Times the three engines over the same texts, and prints symbols per second, walks and reads, each beside the single-step engine's.
 // `benchmark 20` lists each text twenty times; without an argument it only says so, since times differ from run to run.
+
+#![tactic(auto)]
+
 mod texts;
 
 use anyhow::anyhow;

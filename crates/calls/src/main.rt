@@ -1,4 +1,7 @@
 // Reads a script of calls from standard input, makes them, and prints what they answer.
+
+#![tactic(auto)]
+
 use calling::answer;
 use std::io::Read;
 

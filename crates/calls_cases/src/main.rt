@@ -1,4 +1,7 @@
 // Scripts of calls whose answers are stored; they were worked out apart from this code.
+
+#![tactic(auto)]
+
 use calling::answer;
 
 fn case(rt: &HostRuntime, script: &[u8]) -> anyhow::Result<()> {

@@ -3,6 +3,8 @@
 //! The definitions stand in specs/, in the order Extremes, Kinds, Distances; specs/Theorems states what holds of them.
 //! Each function is a theorem: its contract is the statement, and it answers 0.
 
+#![tactic(auto)]
+
 ghost use Rattle.distance.specs.Theorems.{JumpsSafe, Determined};
 
 /// A jump by the distances passes no match, whatever stands before and behind.

@@ -1,4 +1,7 @@
 // Symbols, engines and what an engine owes, and one of two engines as an engine.
+
+#![tactic(auto)]
+
 mod choice;
 mod contract;
 mod symbols;

@@ -1,4 +1,7 @@
 // Prints the fields of the label on standard input, or why it is refused.
+
+#![tactic(auto)]
+
 use label::Field;
 use std::io::Read;
 

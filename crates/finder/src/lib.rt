@@ -1,4 +1,7 @@
 // Lists every match of a text, through a table that may be smaller than the list.
+
+#![tactic(auto)]
+
 ghost use Rattle.std.specs.Prelude.{map, length};
 ghost use Rattle.finder.specs.Listing.{Lists};
 

@@ -1,4 +1,7 @@
 // Reads pallet labels: a header of entries, each of which names a part of the label, comes out as a list of fields.
+
+#![tactic(auto)]
+
 ghost use Rattle.std.specs.Prelude.{◌≡◌, ℕ, ◌+◌, ◌*◌, ◌<◌, ◌≤◌, length, take, drop, MatchResult, slice_index_or};
 ghost use Rattle.label.specs.Labels.{field, entry, count, isWithin, Headed, Sound};
 ghost use Rattle.label.specs.Reading.{Refused, Unsound, Reads};

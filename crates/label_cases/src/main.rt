@@ -1,4 +1,7 @@
 // Reads labels of every kind, and prints what comes of each and how the field list stands then.
+
+#![tactic(auto)]
+
 use label::Field;
 
 // A label, and how many entries the field list has.

@@ -1,4 +1,7 @@
 // Lists the matches of a byte expression in a text: standard input has the expression up to the first line feed, and then the text.
+
+#![tactic(auto)]
+
 mod input;
 mod job;
 

@@ -1,4 +1,7 @@
 // Makes calls on a search for the matches of a byte expression.
+
+#![tactic(auto)]
+
 mod engines;
 
 ghost use Rattle.making.specs.Outcomes.{Makes};

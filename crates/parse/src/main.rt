@@ -1,5 +1,8 @@
 // Reads an expression from standard input, and tells how many positions it has and how long its shortest word is, or
 // why it is refused. The argument says what it is written for: `printf 'ab+c' | parse byte`.
+
+#![tactic(auto)]
+
 use anyhow::anyhow;
 use expression::{Mode, read};
 use std::env;

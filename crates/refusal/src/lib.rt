@@ -1,4 +1,7 @@
 // Every way in which a call can be turned down, with its number, its layer and its place.
+
+#![tactic(auto)]
+
 ghost use Rattle.std.specs.Prelude.{◌≡◌};
 ghost use Rattle.refusal.specs.Refusals.{number, layer, place};
 ghost use Rattle.refusal.specs.declared.Fault.TheVariants.{Memory};

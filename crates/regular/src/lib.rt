@@ -3,6 +3,8 @@
 //! The definitions stand in specs/, one subject to a file, in the order of the lines below.
 //! Each function is a theorem: its contract is the statement, and it answers 0.
 
+#![tactic(auto)]
+
 ghost use Rattle.regular.specs.Language.{ShortestKnown, TailsOfTails};
 ghost use Rattle.regular.specs.Positions.{WordsAccepted, TailsTailed};
 ghost use Rattle.regular.specs.Numbered.{PositionsMeanWords};

@@ -1,4 +1,7 @@
 // Reads a script of calls: what an expression, a table's size, calls and a text are written as.
+
+#![tactic(auto)]
+
 mod lines;
 mod scripts;
 

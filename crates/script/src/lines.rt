@@ -38,13 +38,13 @@ fn decimal(bytes: &[u8], limit: u32) -> Option<u32>
 fn engine_named(name: &[u8]) -> Option<usize>
     ensures { MatchOption result ((e : ℕ) → Names name.now e → ⊥) (λ e. Names name.now e) }
 {
-    if name == b"single" {
+    if name == b"single".as_slice() {
         return Some(0);
     }
-    if name == b"tabled" {
+    if name == b"tabled".as_slice() {
         return Some(1);
     }
-    if name == b"word" { Some(2) } else { None }
+    if name == b"word".as_slice() { Some(2) } else { None }
 }
 
 // An engine's name and a blank, and what stands behind them.
@@ -106,7 +106,7 @@ fn move_in(line: &[u8]) -> Option<Call>
 pub fn read_call(line: &[u8]) -> Option<Call>
     ensures { MatchOption result ((c : Call) → Writes line.now c → ⊥) (λ c. Writes line.now c) }
 {
-    if line == b"clear" {
+    if line == b"clear".as_slice() {
         return Some(Call::Clear);
     }
     if let Some(call) = step_in(line) {

@@ -1,4 +1,7 @@
 // The search: its numbers and calls, the walk at one place, the five calls, and the one call that carries the list theorem.
+
+#![tactic(auto)]
+
 mod numbers;
 mod state;
 mod theorem;

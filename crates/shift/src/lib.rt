@@ -2,6 +2,9 @@
 //!
 //! `kinds` sorts the codes, `tails` lists the tails of kinds by lengths, `distances` measures each of them,
 //! and `jumps` takes for each position the least over its pieces.
+
+#![tactic(auto)]
+
 mod distances;
 mod jumps;
 mod kinds;

@@ -3,6 +3,9 @@
 //! Bytes go through the modules in this order. `grammar` decides whether some expression is written so, and where not.
 //! `limits` goes over the tokens that `lexer` cuts, and looks into their `sets`, for what an expression may not have.
 //! `parser` then builds the `tree`.
+
+#![tactic(auto)]
+
 mod grammar;
 mod lexer;
 mod limits;

@@ -1,4 +1,7 @@
 //! The tabled engine: it follows sets of positions, and jumps by the distances.
+
+#![tactic(auto)]
+
 mod sets;
 mod steps;
 mod tabled;

@@ -1,4 +1,7 @@
 //! The word engine: it looks for one word, counts the symbols read, and jumps by the distances.
+
+#![tactic(auto)]
+
 mod jumps;
 mod letters;
 mod steps;

@@ -1,4 +1,7 @@
 // Runs the worked cases: each script on standard input as program `calls` runs it, and then a field expression over a label.
+
+#![tactic(auto)]
+
 mod fields;
 mod scripts;
 

@@ -2,6 +2,8 @@
 //!
 //! specs/WorkedCases states them, over the definitions of the other crates. The function is a theorem: its contract is the statement, and it answers 0.
 
+#![tactic(auto)]
+
 ghost use Rattle.worked_cases.specs.WorkedCases.{WorkedCases};
 
 /// The definitions come to what was worked out by hand, in every one of the cases.
