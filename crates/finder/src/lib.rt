@@ -26,7 +26,7 @@ pub fn list_all<S: Symbol, E: Engine>(
     engine: &E,
     room: usize,
 ) -> Result<Listing, Fault>
-    ensures { Lists (expression engine.now) (shift engine.now) (map code text.now) room result }
+    ensures { Lists (E.expression engine.now) (E.shift engine.now) (map S.code text.now) room result }
 {
     let mut table = vec![in heap; (0, 0); room]?;
     list_through(heap, text, engine, &mut table)
@@ -39,7 +39,7 @@ fn list_through<S: Symbol, E: Engine>(
     engine: &E,
     table: &mut [Match],
 ) -> Result<Listing, Fault>
-    ensures { Lists (expression engine.now) (shift engine.now) (map code text.now) (length table.old) result }
+    ensures { Lists (E.expression engine.now) (E.shift engine.now) (map S.code text.now) (length table.old) result }
 {
     let mut search = Search::open(text)?;
     let mut matches = Vec::new(heap);

@@ -19,7 +19,7 @@ Taken entries n size rest = (size ≡ 4) × (rest ≡ drop (n * 4) entries)
 
 -- the iterator gives the i-th chunk, and goes on from n, size and rest to n', size' and rest'
 abbrev Gives : ℕ → List ℕ → ℕ → ℕ → List ℕ → ℕ → ℕ → List ℕ → Type 0
-Gives i chunk n size rest n' size' rest' = ((size' ≡ size) × ((rest ≡ chunk ++ rest') × (length chunk ≡ size))) × (i ≡ n) × (n' ≡ n + 1) × (i + 1 < 2 ^ 64)
+Gives i chunk n size rest n' size' rest' = (size' ≡ size) × (rest ≡ chunk ++ rest') × (length chunk ≡ size) × (i ≡ n) × (n' ≡ n + 1)
 
 pub record Turn (label entries : List ℕ) (i : ℕ) (chunk : List ℕ) (n n' size' : ℕ) (rest' : List ℕ) : Type 0 where
   pub now : i ≡ n
@@ -54,7 +54,7 @@ module _ (label : List ℕ) {entries : List ℕ} (are : entries ≡ take (4 * co
         ∙ sym (get_or-drop (place i) label k 0)
 
   pub turn : {i n size n' size' : ℕ} {chunk rest rest' : List ℕ} → Taken entries n size rest → Gives i chunk n size rest n' size' rest' → Turn label entries i chunk n n' size' rest'
-  turn {i} {n} {size} {n'} {size'} {chunk} {rest} {rest'} (four, is) ((same, (comes, long)), at, next, _) =
+  turn {i} {n} {size} {n'} {size'} {chunk} {rest} {rest'} (four, is) (same, comes, long, at, next) =
       let here : drop (i * 4) entries ≡ chunk ++ rest' = ap (λ k. drop (k * 4) entries) at ∙ sym is ∙ comes in
       let behind : i * 4 + 4 ≡ n' * 4 = omega arith in
       record {

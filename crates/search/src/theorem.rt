@@ -17,7 +17,7 @@ pub fn perform<S: Symbol, E: Engine>(
     calls: &[Call],
     table: &mut [Match],
 ) -> Result<Outcome, Fault>
-    ensures { Performs code expression shift text.now engines.now spare.now calls.now table.old table.new result }
+    ensures { Performs S.code E.expression E.shift text.now engines.now spare.now calls.now table.old table.new result }
 {
     let mut search = Search::open(text)?;
     let mut answers = Vec::with_capacity(heap, calls.len())?;

@@ -17,7 +17,7 @@ pub struct Walked {
 
 // 1 at a final state, and else 0.
 fn tally<E: Engine>(engine: &E, state: E::State) -> u32
-    ensures { (v : List ℕ) → Tail (expression engine.now) v → state ≡ after engine.now v → result ≡ (if accepted (expression engine.now) v then 1 else 0) }
+    ensures { (v : List ℕ) → Tail (E.expression engine.now) v → state ≡ E.after engine.now v → result ≡ (if accepted (E.expression engine.now) v then 1 else 0) }
 {
     if engine.is_final(state) { 1 } else { 0 }
 }
@@ -25,9 +25,9 @@ fn tally<E: Engine>(engine: &E, state: E::State) -> u32
 // Reads leftwards from the place as long as what is read is a tail, and counts the matches that end there.
 pub(crate) fn walk<S: Symbol, E: Engine>(engine: &E, text: &[S], place: u32) -> Walked
     requires { (place ≤ length text.now) × (length text.now ≤ 65535) }
-    ensures count { result.count ≡ length (ending (expression engine.now) (map code text.now) place) }
-    ensures jump { result.jump ≡ shift engine.now (longest (expression engine.now) (map code text.now) place) }
-    ensures reads { result.reads ≡ reading (expression engine.now) (map code text.now) place }
+    ensures count { result.count ≡ length (ending (E.expression engine.now) (map S.code text.now) place) }
+    ensures jump { result.jump ≡ E.shift engine.now (longest (E.expression engine.now) (map S.code text.now) place) }
+    ensures reads { result.reads ≡ reading (E.expression engine.now) (map S.code text.now) place }
     ensures forward { 1 ≤ result.jump }
     ensures few { result.count ≤ place + 1 }
 {
@@ -52,8 +52,8 @@ pub(crate) fn walk<S: Symbol, E: Engine>(engine: &E, text: &[S], place: u32) -> 
 
 // The same walk: writes the matches, shorter before longer, from the first entry on.
 fn write<S: Symbol, E: Engine>(engine: &E, text: &[S], place: u32, room: &mut [Match])
-    requires { (place ≤ length text.now) × ((length text.now ≤ 65535) × (length (ending (expression engine.now) (map code text.now) place) ≤ length room.old)) }
-    ensures { room.new ≡ ending (expression engine.now) (map code text.now) place ++ drop (length (ending (expression engine.now) (map code text.now) place)) room.old }
+    requires { (place ≤ length text.now) × ((length text.now ≤ 65535) × (length (ending (E.expression engine.now) (map S.code text.now) place) ≤ length room.old)) }
+    ensures { room.new ≡ ending (E.expression engine.now) (map S.code text.now) place ++ drop (length (ending (E.expression engine.now) (map S.code text.now) place)) room.old }
 {
     let mut at = place;
     let mut state = engine.start();
@@ -83,8 +83,8 @@ pub(crate) fn add<S: Symbol, E: Engine>(
     filled: u32,
     count: u32,
 )
-    requires { (place ≤ length text.now) × ((length text.now ≤ 65535) × ((count ≡ length (ending (expression engine.now) (map code text.now) place)) × (count ≤ length table.old - filled))) }
-    ensures front { take (filled + count) table.new ≡ take filled table.old ++ ending (expression engine.now) (map code text.now) place }
+    requires { (place ≤ length text.now) × ((length text.now ≤ 65535) × ((count ≡ length (ending (E.expression engine.now) (map S.code text.now) place)) × (count ≤ length table.old - filled))) }
+    ensures front { take (filled + count) table.new ≡ take filled table.old ++ ending (E.expression engine.now) (map S.code text.now) place }
     ensures rest { drop (filled + count) table.new ≡ drop (filled + count) table.old }
 {
     if count > 0 {

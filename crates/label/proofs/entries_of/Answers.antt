@@ -17,8 +17,8 @@ returns-then-rest-count c = cut_off (search rules) c.if-edition-ne3.false c.if-c
 pub returns-then-room-count : goal.returns-then-room-count
 returns-then-room-count c = narrow (record { begun = search rules; third = c.if-edition-ne3.false; few = c.if-count-gt32.false; whole = search rules }) c.if-room-count.true
 
-pub returns-in-default : goal.returns-in-default
-returns-in-default c = short (search rules)
+pub returns-in_default : goal.returns-in_default
+returns-in_default c = short (search rules)
 
 pub returns-else-room-count : goal.returns-else-room-count
 returns-else-room-count c =

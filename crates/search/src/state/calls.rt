@@ -71,7 +71,7 @@ impl<'t, S: Symbol> Search<'t, S> {
     /// Answers how many it wrote; refused where every place is looked at, or where the table lacks room for them all.
     pub fn step<E: Engine>(&mut self, engine: &E, table: &mut [Match]) -> Result<u32, Fault>
         ensures text { self.new.text ≡ self.old.text }
-        ensures step { MatchResult result (Stepped (expression engine.now) (shift engine.now) (map code self.old.text.now) self.old.numbers self.new.numbers table.old table.new) (Held (expression engine.now) (shift engine.now) (map code self.old.text.now) self.old.numbers self.new.numbers table.old table.new) }
+        ensures step { MatchResult result (Stepped (E.expression engine.now) (E.shift engine.now) (map S.code self.old.text.now) self.old.numbers self.new.numbers table.old table.new) (Held (E.expression engine.now) (E.shift engine.now) (map S.code self.old.text.now) self.old.numbers self.new.numbers table.old table.new) }
     {
         let numbers = self.numbers;
         let place = numbers.next;
@@ -102,7 +102,7 @@ impl<'t, S: Symbol> Search<'t, S> {
     /// Steps until every place is looked at, the budget is done or the room is too small, and answers the steps done and which it was.
     pub fn run<E: Engine>(&mut self, engine: &E, table: &mut [Match], budget: u32) -> (u32, Stop)
         ensures text { self.new.text ≡ self.old.text }
-        ensures run { RanBy (expression engine.now) (shift engine.now) (map code self.old.text.now) self.old.numbers self.new.numbers table.old table.new budget result.0 result.1 }
+        ensures run { RanBy (E.expression engine.now) (E.shift engine.now) (map S.code self.old.text.now) self.old.numbers self.new.numbers table.old table.new budget result.0 result.1 }
     {
         let mut done = 0;
         let stop = loop {
@@ -154,7 +154,7 @@ impl<'t, S: Symbol> Search<'t, S> {
         table: &mut [Match],
     ) -> Answer
         ensures text { self.new.text ≡ self.old.text }
-        ensures by { (r : Regex) → ((i : ℕ) → expression (named engines.now spare.now i) ≡ r) → SetAside r (map code self.old.text.now) self.old.numbers (take self.old.numbers.filled table.old) → CalledBy r (map code self.old.text.now) (λ i. shift (named engines.now spare.now i)) call self.old.numbers self.new.numbers table.old table.new result }
+        ensures by { (r : Regex) → ((i : ℕ) → E.expression (named engines.now spare.now i) ≡ r) → SetAside r (map S.code self.old.text.now) self.old.numbers (take self.old.numbers.filled table.old) → CalledBy r (map S.code self.old.text.now) (λ i. E.shift (named engines.now spare.now i)) call self.old.numbers self.new.numbers table.old table.new result }
     {
         match call {
             Call::Step { engine } => match self.step(pick(engines, spare, engine), table) {

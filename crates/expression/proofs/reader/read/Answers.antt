@@ -2,5 +2,5 @@
 use Rattle.syntax.proofs.Verdicts.{accepted_few, accepted_full}
 use Rattle.expression.proofs.reader.read.Goals as goal
 
-pub invariant-of-result : goal.invariant-of-result
-invariant-of-result c = let a = c.in-ok-tree.ensures.outcome in (accepted_few _ _ _ a, (accepted_full _ _ _ a, (a.values_are_exact, tt)))
+pub invariant_of-result : goal.invariant_of-result
+invariant_of-result c = let a = c.in_ok-tree.ensures.outcome in record { few = accepted_few _ _ _ a; full = accepted_full _ _ _ a; exact = a.values_are_exact }

@@ -1,14 +1,14 @@
-use Rattle.std.proofs.Common.{ℕ, List, Some, None, Option, MatchOption}
-use Rattle.std.proofs.lemmas.Slice.Eq.{slice_eq-Decides}
+use Rattle.std.proofs.Common.{ℕ, List, Some, None, Option, MatchOption, sym, ◌∙◌}
 use Rattle.std.proofs.lemmas.Bool.{both_ways}
+use Rattle.std.proofs.lemmas.Bool.Decides.{Decides-eqb}
+use Rattle.std.proofs.lemmas.Slice.Eq.{slice_eq-Decides}
 use Rattle.search.specs.declared.numbers.Call.{Call}
 use Rattle.search.specs.declared.numbers.Call.TheVariants.{Step, Run, Clear, Move}
 use Rattle.script.specs.Lines.{Writes}
 use Rattle.script.proofs.lines.read_call.Goals as goal
-use Rattle.std.proofs.lemmas.Bool.Decides.{Decides-eqb}
 
 pub returns-then-eq : goal.returns-then-eq
-returns-then-eq c = (slice_eq-Decides Decides-eqb _ _ _ c.eq.ensures).0 c.if-eq.true
+returns-then-eq c = (slice_eq-Decides Decides-eqb _ _ _ c.eq.ensures).0 c.if-eq.true ∙ c.as_slice.ensures
 
 -- a line that is a call of no kind is none
 no_call : (line : List ℕ) → ((e : ℕ) → Writes line (Step e) → ⊥) → ((e b : ℕ) → Writes line (Run e b) → ⊥) → (Writes line Clear → ⊥) → ((p : ℕ) → Writes line (Move p) → ⊥) → (c : Call) → Writes line c → ⊥
@@ -22,4 +22,4 @@ last line None step run clear h = no_call line step run clear h
 last line (Some c) step run clear h = h
 
 pub returns : goal.returns
-returns c = last c.args.line.now c.move-in.result c.in-default.ensures c.in-default-run-in.ensures (λ is. both_ways _ c.if-eq.false ((slice_eq-Decides Decides-eqb _ _ _ c.eq.ensures).1 is)) c.move-in.ensures
+returns c = last c.args.line.now c.move_in.result c.in_default.ensures c.in_default-run_in.ensures (λ is. both_ways _ c.if-eq.false ((slice_eq-Decides Decides-eqb _ _ _ c.eq.ensures).1 (is ∙ sym c.as_slice.ensures))) c.move_in.ensures

@@ -21,11 +21,11 @@ module _ (name name' digits digits' : List ℕ) (both : name ++ (32 ∷ digits) 
   same_digits e e' (word p _) (single q _) = let y : ◌≡◌ {A = ℕ} 119 115 = first (codes "word") (codes "single") p q in absurd (omega arith)
   same_digits e e' (word p _) (tabled q _) = let y : ◌≡◌ {A = ℕ} 119 116 = first (codes "word") (codes "tabled") p q in absurd (omega arith)
 
-pub returns-in-default-engine-then : goal.returns-in-default-engine-then
-returns-in-default-engine-then c e b (name, digits, is, names, written) = c.in-default-engine-then.ensures name digits e (sym (ap (drop 4) (sym is ∙ c.in-Some.ensures))) names
+pub returns-in_default-engine_then : goal.returns-in_default-engine_then
+returns-in_default-engine_then c e b (name, digits, is, names, written) = c.in_default-engine_then.ensures name digits e (sym (ap (drop 4) (sym is ∙ c.in-Some.ensures))) names
 
 pub returns-in-None : goal.returns-in-None
 returns-in-None c e b (name, digits, is, names, written) =
-    let (name', is', names') = c.in-Some-engine-then.ensures in
-    let same = same_digits name name' digits c.in-Some-engine-then.digits.now (ap (drop 4) (sym is ∙ c.in-Some.ensures) ∙ is') e c.in-Some-engine-then.engine names names' in
+    let (name', is', names') = c.in-Some-engine_then.ensures in
+    let same = same_digits name name' digits c.in-Some-engine_then.digits.now (ap (drop 4) (sym is ∙ c.in-Some.ensures) ∙ is') e c.in-Some-engine_then.engine names names' in
     c.in-None.ensures b (subst (λ ds. Decimal 4294967295 ds b) same written)

@@ -33,8 +33,8 @@ more g c =
 pub walk-preserved : goal.walk-preserved
 walk-preserved g c = more g c
 
-pub overflow-add-count : goal.overflow-add-count
-overflow-add-count g c =
+pub overflow_add-count : goal.overflow_add-count
+overflow_add-count g c =
     omega (arith, (more g c).1.counted, ending_few (g.E.Engine.expression c.args.engine.now) (map g.S.Symbol.code c.args.text.now) c.args.place)
 
 pub returns : goal.returns

@@ -5,4 +5,4 @@ use Rattle.distance.specs.Found.{Within}
 use Rattle.shift.proofs.jumps.+holds_bytes.Goals as goal
 
 pub returns-in-Atom : goal.returns-in-Atom
-returns-in-Atom t c = subst (λ (r : Regex). Within 256 r) (sym (ap language c.in-Atom.is)) c.ends-at-255.ensures
+returns-in-Atom t c = subst (λ (r : Regex). Within 256 r) (sym (ap language c.in-Atom.is)) c.ends_at_255.ensures

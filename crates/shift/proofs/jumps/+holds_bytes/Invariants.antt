@@ -1,5 +1,5 @@
 use Rattle.syntax.proofs.tree.Node.TheLaws.{the_size}
 use Rattle.shift.proofs.jumps.+holds_bytes.Given as goal
 
-abbrev pub decreases-holds-bytes : goal.decreases-holds-bytes
-decreases-holds-bytes l = the_size l.node.now
+abbrev pub decreases-holds_bytes : goal.decreases-holds_bytes
+decreases-holds_bytes l = the_size l.node.now

@@ -5,10 +5,10 @@ use Rattle.shift.specs.Records.{no_kind, nothing, at, longer_in}
 use Rattle.regular.specs.Sets.{followed}
 use Rattle.shift.proofs.Steps.{front_yes, front_no}
 use Rattle.shift.proofs.tails.front.Goals as goal
-use Rattle.shift.proofs.tails.front.Goals.{then-positions-ne0+in-ok-push, else-positions-ne0}
+use Rattle.shift.proofs.tails.front.Goals.{then-positions-ne0+in_ok-push, else-positions-ne0}
 
-pub overflow-add-tail : goal.overflow-add-tail
-overflow-add-tail c =
+pub overflow_add-tail : goal.overflow_add-tail
+overflow_add-tail c =
     let e : c.index-tail.result.now ≡ at (vec_items c.args.found.now) c.args.behind
     = get_or_read_under (vec_items c.args.found.now) c.args.behind c.args.found.now.len c.index-tail.result.now nothing c.index-tail.ensures (omega arith) (omega arith) in
     omega (arith, ap (λ t. t.span) e)
@@ -16,8 +16,8 @@ overflow-add-tail c =
 pub loop-kind-preserved : goal.loop-kind-preserved
 loop-kind-preserved c =
     elim c.if-positions-ne0.branch [
-      | then-positions-ne0+in-ok-push w ↦
-          ap vec_items w.found-is ∙ w.in-ok-push.ensures.items
+      | then-positions-ne0+in_ok-push w ↦
+          ap vec_items w.found-is ∙ w.in_ok-push.ensures.items
           ∙ front_yes c.follow-next.result c.args.behind c.index-tail.result.now.span (vec_items c.args.found.now) (vec_items c.loop-kind.found) c.args.kinds.now c.loop-kind.kind-index no_kind c.loop-kind.invariant c.loop-kind-test.true w.if-positions-ne0.true
       | else-positions-ne0 w ↦
           ap vec_items w.found-is

@@ -9,6 +9,6 @@ loop-p-preserved c =
     let lt : i < length c.loop-p.rows = omega arith in (
       below_more _ _
           (λ k h. get_or-set_other c.loop-p.rows i k _ 0 (λ e. omega arith) ∙ c.loop-p.invariant.0 k h)
-          (get_or-set_same c.loop-p.rows i _ 0 lt ∙ ap₂ bit_or (c.loop-p.invariant.1 i (omega arith)) c.only-if.ensures),
+          (get_or-set_same c.loop-p.rows i _ 0 lt ∙ ap₂ bit_or (c.loop-p.invariant.1 i (omega arith)) c.only_if.ensures),
       λ k h. get_or-set_other c.loop-p.rows i k _ 0 (λ e. omega arith) ∙ c.loop-p.invariant.1 k (omega arith),
     )

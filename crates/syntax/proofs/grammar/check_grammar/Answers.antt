@@ -16,8 +16,8 @@ returns-in-None c = not_in_grammar _ refl c.requires (stuck _ _ _ _ _ c.loop-at-
 pub loop-at-preserved : goal.loop-at-preserved
 loop-at-preserved c = one_more _ _ _ _ _ _ _ c.loop-at.invariant c.loop-at-test.true c.in-Some.ensures
 
-pub returns-then-is-final : goal.returns-then-is-final
-returns-then-is-final c = read_whole _ _ _ _ _ c.loop-at.invariant c.loop-at-test.false c.if-is-final.ensures
+pub returns-then-is_final : goal.returns-then-is_final
+returns-then-is_final c = read_whole _ _ _ _ _ c.loop-at.invariant c.loop-at-test.false c.if-is_final.ensures
 
-pub returns-else-is-final : goal.returns-else-is-final
-returns-else-is-final c = not_in_grammar _ refl c.requires (read_short _ _ _ _ _ c.loop-at.invariant c.loop-at-test.false c.if-is-final.ensures)
+pub returns-else-is_final : goal.returns-else-is_final
+returns-else-is_final c = not_in_grammar _ refl c.requires (read_short _ _ _ _ _ c.loop-at.invariant c.loop-at-test.false c.if-is_final.ensures)

@@ -16,22 +16,22 @@ pub returns-then-bytes-at : goal.returns-then-bytes-at
 returns-then-bytes-at c = record {
   found = λ k w e.
       set_only _ k c.args.bytes.now c.args.at w e
-      (λ k. Lexed c.args.mode k c.args.at c.set-at.result)
-      c.in-default.ensures
+      (λ k. Lexed c.args.mode k c.args.at c.set_at.result)
+      c.in_default.ensures
       (c.if-bytes-at.true ∙ c.opens.ensures)
-      (λ n xs e. c.set-at.ensures.found n xs w e);
-  ahead = c.set-at.ensures.ahead;
+      (λ n xs e. c.set_at.ensures.found n xs w e);
+  ahead = c.set_at.ensures.ahead;
 }
 
-pub returns-in-Some-read-value : goal.returns-in-Some-read-value
-returns-in-Some-read-value c = record {
+pub returns-in-Some-read_value : goal.returns-in-Some-read_value
+returns-in-Some-read_value c = record {
   found = λ k w e.
       unit_only _ k c.args.bytes.now c.args.at w e
-      (λ k. Lexed c.args.mode k c.args.at (Ok (Unit c.in-Some-read-value.code, c.in-Some-read-value.next)))
-      c.in-default.ensures
+      (λ k. Lexed c.args.mode k c.args.at (Ok (Unit c.in-Some-read_value.code, c.in-Some-read_value.next)))
+      c.in_default.ensures
       (λ b. c.if-bytes-at.false (b ∙ sym c.opens.ensures))
-      (λ a x e. unit_found _ a x _ _ w e _ _ c.in-Some-read-value.ensures);
-  ahead = let o = onward_value _ _ _ c.in-Some-read-value.code c.in-Some-read-value.next c.in-Some-read-value.ensures in (tt, o.0, o.1);
+      (λ a x e. unit_found _ a x _ _ w e _ _ c.in-Some-read_value.ensures);
+  ahead = let o = onward_value _ _ _ c.in-Some-read_value.code c.in-Some-read_value.next c.in-Some-read_value.ensures in (tt, o.0, o.1);
 }
 
 pub returns-in-None : goal.returns-in-None
@@ -39,7 +39,7 @@ returns-in-None c = record {
   found = λ k w e.
       unit_only _ k c.args.bytes.now c.args.at w e
       (λ _. ⊥)
-      c.in-default.ensures
+      c.in_default.ensures
       (λ b. c.if-bytes-at.false (b ∙ sym c.opens.ensures))
       (λ a x e. unit_there _ a x _ _ w e c.in-None.ensures);
   ahead = tt;

@@ -5,11 +5,11 @@ use Rattle.syntax.proofs.sets.in_members.Goals as goal
 pub loop-low-init : goal.loop-low-init
 loop-low-init c = searching_start _ _ _
 
-pub returns-then-is-between : goal.returns-then-is-between
-returns-then-is-between c = searching_found _ _ _ _ c.loop-low.invariant _ _ _ c.in-Some.ensures c.if-is-between.ensures
+pub returns-then-is_between : goal.returns-then-is_between
+returns-then-is_between c = searching_found _ _ _ _ c.loop-low.invariant _ _ _ c.in-Some.ensures c.if-is_between.ensures
 
 pub loop-low-preserved : goal.loop-low-preserved
-loop-low-preserved c = searching_next _ _ _ _ c.loop-low.invariant _ _ _ c.in-Some.ensures c.if-is-between.ensures _ c.behind-separator-at.ensures
+loop-low-preserved c = searching_next _ _ _ _ c.loop-low.invariant _ _ _ c.in-Some.ensures c.if-is_between.ensures _ c.behind_separator-at.ensures
 
 pub returns : goal.returns
-returns c = searching_end _ _ _ _ c.loop-low.invariant c.in-default.ensures
+returns c = searching_end _ _ _ _ c.loop-low.invariant c.in_default.ensures

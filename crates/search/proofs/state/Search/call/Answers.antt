@@ -77,26 +77,26 @@ returns-in-Clear g c =
           (call_cleared r (map g.S.Symbol.code s.text.now) shifts s.numbers c.clear.new.self.numbers c.args.table.now c.args.table.now aside c.clear.result c.clear.ensures.count c.clear.ensures.after refl);
     }
 
-pub returns-in-Ok-move-to : goal.returns-in-Ok-move-to
-returns-in-Ok-move-to g c =
+pub returns-in-Ok-move_to : goal.returns-in-Ok-move_to
+returns-in-Ok-move_to g c =
     let s = c.args.self.now in
     let t = map g.S.Symbol.code s.text.now in
     let shifts : ℕ → List ℕ → ℕ = λ i. g.E.Engine.shift (named c.args.engines.now c.args.spare.now i) in
-    let le : c.in-Move.place ≤ length t = simp length-map c.in-Ok-move-to.ensures.after.0 in
+    let le : c.in-Move.place ≤ length t = simp length-map c.in-Ok-move_to.ensures.after.0 in
     record {
-      text = c.move-to.ensures.text;
+      text = c.move_to.ensures.text;
       by = λ r all aside. as_is c.in-Move.is
-          (call_moved r t shifts s.numbers c.move-to.new.self.numbers c.args.table.now c.args.table.now aside c.in-Move.place le c.in-Ok-move-to.ensures.after.1 refl);
+          (call_moved r t shifts s.numbers c.move_to.new.self.numbers c.args.table.now c.args.table.now aside c.in-Move.place le c.in-Ok-move_to.ensures.after.1 refl);
     }
 
-pub returns-in-Err-move-to : goal.returns-in-Err-move-to
-returns-in-Err-move-to g c =
+pub returns-in-Err-move_to : goal.returns-in-Err-move_to
+returns-in-Err-move_to g c =
     let s = c.args.self.now in
     let t = map g.S.Symbol.code s.text.now in
     let shifts : ℕ → List ℕ → ℕ = λ i. g.E.Engine.shift (named c.args.engines.now c.args.spare.now i) in
-    let lt : length t < c.in-Move.place = simp length-map c.in-Err-move-to.ensures.after.0 in
+    let lt : length t < c.in-Move.place = simp length-map c.in-Err-move_to.ensures.after.0 in
     record {
-      text = c.move-to.ensures.text;
+      text = c.move_to.ensures.text;
       by = λ r all aside. as_is c.in-Move.is
-          (call_beyond r t shifts s.numbers c.move-to.new.self.numbers c.args.table.now c.args.table.now aside c.in-Move.place c.in-Err-move-to.fault lt c.in-Err-move-to.ensures.after.1 c.in-Err-move-to.ensures.after.2 refl);
+          (call_beyond r t shifts s.numbers c.move_to.new.self.numbers c.args.table.now c.args.table.now aside c.in-Move.place c.in-Err-move_to.fault lt c.in-Err-move_to.ensures.after.1 c.in-Err-move_to.ensures.after.2 refl);
     }

@@ -10,8 +10,8 @@ use Rattle.search.proofs.state.Search.run.Goals as goal
 pub loop-self-init : goal.loop-self-init
 loop-self-init g c = (refl, runs_start _ _ _ _ _ _)
 
-pub overflow-add-done : goal.overflow-add-done
-overflow-add-done g c = omega (arith, c.loop-self.invariant.1.within, c.ranges.budget.fits)
+pub overflow_add-done : goal.overflow_add-done
+overflow_add-done g c = omega (arith, c.loop-self.invariant.1.within, c.ranges.budget.fits)
 
 pub loop-self-smaller : goal.loop-self-smaller
 loop-self-smaller g c = omega (arith, c.loop-self.invariant.1.within, c.if-done-budget.false)

@@ -26,8 +26,8 @@ returns-then-place-text g c =
       };
     }
 
-pub returns-then-walked-saturating-sub : goal.returns-then-walked-saturating-sub
-returns-then-walked-saturating-sub g c =
+pub returns-then-walked-saturating_sub : goal.returns-then-walked-saturating_sub
+returns-then-walked-saturating_sub g c =
     let r = g.E.Engine.expression c.args.engine.now in
     let t = map g.S.Symbol.code c.args.self.now.text.now in
     let k = c.args.self.now.numbers in
@@ -35,7 +35,7 @@ returns-then-walked-saturating-sub g c =
     let on : k.next ≤ length t = simp length-map c.if-place-text.false in
     let is : finished t k.next ≡ false = le-ltb (length t) k.next on in
     let room : ℕ = length c.args.table.now - k.filled in
-    let full : crowded r t room k.next ≡ true = lt-ltb _ _ (omega (arith, count, c.saturating-sub.ensures, c.if-walked-saturating-sub.true)) in
+    let full : crowded r t room k.next ≡ true = lt-ltb _ _ (omega (arith, count, c.saturating_sub.ensures, c.if-walked-saturating_sub.true)) in
     let nine : Fault = Finished k.next in
     record {
       text = refl;
@@ -58,7 +58,7 @@ returns g c =
       text = refl;
       step = record {
         going = le-ltb (length t) k.next on;
-        fitting = le-ltb _ _ (omega (arith, count, c.saturating-sub.ensures, c.if-walked-saturating-sub.false));
+        fitting = le-ltb _ _ (omega (arith, count, c.saturating_sub.ensures, c.if-walked-saturating_sub.false));
         count = count;
         after = stepped_is r t (g.E.Engine.shift c.args.engine.now) k c.ahead.result c.walk-walked.result.jump c.walk-walked.result.count c.walk-walked.result.reads _ (length-map c.args.self.now.text.now g.S.Symbol.code) c.ahead.ensures c.walk-walked.ensures.jump count c.walk-walked.ensures.reads;
         added = record { front = c.add.ensures.front; rest = c.add.ensures.rest };

@@ -11,17 +11,18 @@ as_number : (b : Bool) → bool_byte b ≡ cond b 1 0
 as_number true = refl
 as_number false = refl
 
-pub invariant-of-result : goal.invariant-of-result
-invariant-of-result c =
+pub invariant_of-result : goal.invariant_of-result
+invariant_of-result c =
     let r = language c.args.expression.tree in
     let made = c.fill-ends.ensures in
-    let zeros : c.deref-mut.result.now ≡ replicate (size r + 1) 0 = c.deref-mut.ensures.value ∙ c.in-ok-arrows.ensures.items-if-clones-equal (λ y e. e) ∙ ap (λ n. replicate (n + 1) 0) c.positions.ensures in
-    let none : c.deref-mut-2.result.now ≡ replicate 256 0 = c.deref-mut-2.ensures.value ∙ c.in-ok-held.ensures.items-if-clones-equal (λ y e. e) in (
-      ap (λ (l : List ℕ). set l 0 c.fill-ends.result.lasts) (take_at c.fill-ends.new.arrows _ _ (c.fill-ends.auto.arrows ∙ c.deref-mut.ensures.len))
-          ∙ arrows_made r c.deref-mut.result.now c.fill-ends.new.arrows c.fill-ends.result.lasts zeros c.fill-ends.auto.arrows made.arrows made.lasts,
-      (
-        take_at c.fill-ends.new.held _ _ (c.fill-ends.auto.held ∙ c.deref-mut-2.ensures.len)
-            ∙ held_made r c.deref-mut-2.result.now c.fill-ends.new.held none c.fill-ends.auto.held made.held,
-        (ap (bit_or c.fill-ends.result.firsts) (as_number c.fill-ends.result.nullable) ∙ finals_made r c.fill-ends.result.firsts c.fill-ends.result.nullable made.firsts made.empty, tt),
-      ),
-    )
+    let zeros : c.deref_mut.result.now ≡ replicate (size r + 1) 0 = c.deref_mut.ensures.value ∙ c.in_ok-arrows.ensures.items_if_clones_equal (λ y e. e) ∙ ap (λ n. replicate (n + 1) 0) c.positions.ensures in
+    let none : c.deref_mut-2.result.now ≡ replicate 256 0 = c.deref_mut-2.ensures.value ∙ c.in_ok-held.ensures.items_if_clones_equal (λ y e. e) in
+    record {
+      entering =
+          ap (λ (l : List ℕ). set l 0 c.fill-ends.result.lasts) (take_at c.fill-ends.new.arrows _ _ (c.fill-ends.auto.arrows ∙ c.deref_mut.ensures.len))
+          ∙ arrows_made r c.deref_mut.result.now c.fill-ends.new.arrows c.fill-ends.result.lasts zeros c.fill-ends.auto.arrows made.arrows made.lasts;
+      holding =
+          take_at c.fill-ends.new.held _ _ (c.fill-ends.auto.held ∙ c.deref_mut-2.ensures.len)
+          ∙ held_made r c.deref_mut-2.result.now c.fill-ends.new.held none c.fill-ends.auto.held made.held;
+      ending = ap (bit_or c.fill-ends.result.firsts) (as_number c.fill-ends.result.nullable) ∙ finals_made r c.fill-ends.result.firsts c.fill-ends.result.nullable made.firsts made.empty;
+    }

@@ -9,7 +9,7 @@ use Rattle.tabled.specs.Greatest.{greatest_jump}
 use Rattle.tabled.proofs.tabled.Tabled.new.Goals as goal
 
 pub invariant-of-result : goal.invariant-of-result
-invariant-of-result c = (∣ c.in-ok-jumps.ensures ∣₁, tt)
+invariant-of-result c = record { exact = ∣ c.in-ok-jumps.ensures ∣₁ }
 
 pub returns : goal.returns
 returns c =
