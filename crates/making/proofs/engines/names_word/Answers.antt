@@ -7,12 +7,12 @@ use Rattle.making.proofs.engines.names_word.Goals as goal
 pub loop-i-preserved : goal.loop-i-preserved
 loop-i-preserved c =
     let calls = c.args.calls.now in
-    subst (λ b. (b || asks_word (drop (c.loop-i.i + 1) calls)) ≡ asks_word calls) c.if-is-word.false (asked_at calls c.loop-i.i c.is-word.result c.loop-i-test.true c.is-word.ensures c.loop-i.invariant)
+    subst (λ b. (b || asks_word (drop (c.loop-i.i + 1) calls)) ≡ asks_word calls) c.if-is_word.false (asked_at calls c.loop-i.i c.is_word.result c.loop-i-test.true c.is_word.ensures c.loop-i.invariant)
 
-pub returns-then-is-word : goal.returns-then-is-word
-returns-then-is-word c =
+pub returns-then-is_word : goal.returns-then-is_word
+returns-then-is_word c =
     let calls = c.args.calls.now in
-    subst (λ b. (b || asks_word (drop (c.loop-i.i + 1) calls)) ≡ asks_word calls) c.if-is-word.true (asked_at calls c.loop-i.i c.is-word.result c.loop-i-test.true c.is-word.ensures c.loop-i.invariant)
+    subst (λ b. (b || asks_word (drop (c.loop-i.i + 1) calls)) ≡ asks_word calls) c.if-is_word.true (asked_at calls c.loop-i.i c.is_word.result c.loop-i-test.true c.is_word.ensures c.loop-i.invariant)
 
 pub returns : goal.returns
 returns c = sym (at_drop_all asks_word c.args.calls.now c.loop-i.i (omega arith)) ∙ c.loop-i.invariant

@@ -5,9 +5,9 @@ use Rattle.syntax.specs.declared.mode.Mode.{Mode}
 use Rattle.making.proofs.engines.single_of.Goals as goal
 
 pub returns : goal.returns
-returns c = MatchResult-weaker c.new.result c.new.ensures (λ e same. subst (Accepted Mode.Bytes c.args.bytes.now) (sym same) c.in-ok-expression.ensures.outcome) (λ f is. inr is)
+returns c = MatchResult-weaker c.new.result c.new.ensures (λ e same. subst (Accepted Mode.Bytes c.args.bytes.now) (sym same) c.in_ok-expression.ensures.outcome) (λ f is. inr is)
 
-pub returns-in-err-expression : goal.returns-in-err-expression
-returns-in-err-expression c =
-    let p = err_from_is_err_and c.from-residual.result c.from-residual.ensures.1 in
-    rw (p.1, p.2) (inl c.in-err-expression.ensures.outcome)
+pub returns-in_err-expression : goal.returns-in_err-expression
+returns-in_err-expression c =
+    let p = err_from_is_err_and c.from_residual.result c.from_residual.ensures.1 in
+    rw (p.1, p.2) (inl c.in_err-expression.ensures.outcome)

@@ -8,16 +8,16 @@ use Rattle.tabled.specs.Jumps.{greatest_of}
 use Rattle.tabled.specs.Greatest.{greatest_jump}
 use Rattle.tabled.proofs.tabled.Tabled.new.Goals as goal
 
-pub invariant-of-result : goal.invariant-of-result
-invariant-of-result c = record { exact = ∣ c.in-ok-jumps.ensures ∣₁ }
+pub invariant_of-result : goal.invariant_of-result
+invariant_of-result c = record { exact = ∣ c.in_ok-jumps.ensures ∣₁ }
 
 pub returns : goal.returns
 returns c =
-    let x = c.in-ok-single.single.expression in
-    let jumps = vec_items c.in-ok-jumps.jumps in
-    let same : x.tree ≡ c.args.expression.tree = c.in-ok-single.ensures in
+    let x = c.in_ok-single.single.expression in
+    let jumps = vec_items c.in_ok-jumps.jumps in
+    let same : x.tree ≡ c.args.expression.tree = c.in_ok-single.ensures in
     record {
       same_tree = same;
       exact = subst (λ (n : Node). (v : List ℕ) → Tail (language n) v → Jump (language n) v (greatest_of (language n) jumps v)) same
-          (greatest_jump (language x.tree) x.few (full_inhabited x.tree x.full) jumps c.in-ok-jumps.ensures);
+          (greatest_jump (language x.tree) x.few (full_inhabited x.tree x.full) jumps c.in_ok-jumps.ensures);
     }
