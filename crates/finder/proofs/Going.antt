@@ -2,7 +2,7 @@
 use Rattle.std.proofs.Common.{◌≡◌, ℕ, zero, suc, ◌+◌, ◌-◌, ◌*◌, ◌^◌, ◌<◌, ◌≤◌, Bool, true, false, cond, eqb, List, [], ◌++◌, length, take, sym, refl, ap, ◌∙◌, subst, subst₂, ⊎_elim, arith, length-take}
 use Rattle.std.proofs.lemmas.Bool.{cases_Bool, cond_both, cond-true, cond-false, ltb-true, ltb-false, or_parts, or_cases, false≢true}
 use Rattle.refusal.specs.declared.Fault.{Fault}
-use Rattle.refusal.specs.declared.Fault.TheVariants.{Finished, NoRoom}
+use Rattle.refusal.specs.declared.Fault.TheVariants.{NoRoom}
 use Rattle.regular.specs.Language.{Regex, Inhabited}
 use Rattle.regular.specs.Jumps.{Skips}
 use Rattle.regular.specs.Matches.{ending, listed, Exactly}

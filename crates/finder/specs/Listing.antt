@@ -1,5 +1,5 @@
 -- What listing a whole text gives: every match, and what finding them took. Assumes nothing.
-use Rattle.std.specs.Prelude.{◌≡◌, ℕ, ◌+◌, ◌<◌, ◌≤◌, false, List, length, vec_items, Result, MatchResult}
+use Rattle.std.specs.Prelude.{ℕ, ◌+◌, ◌<◌, ◌≤◌, List, length, vec_items, Result, MatchResult}
 use Rattle.refusal.specs.declared.Fault.{Fault}
 use Rattle.refusal.specs.declared.Fault.TheVariants.{TextTooLong, NoRoom, Memory}
 use Rattle.regular.specs.Language.{Regex}

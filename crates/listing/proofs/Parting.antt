@@ -1,5 +1,5 @@
 -- Bytes parted at their first line feed. Assumes nothing.
-use Rattle.std.proofs.Common.{◌≡◌, ℕ, ◌+◌, ◌-◌, ◌<◌, ◌≤◌, List, ◌∷◌, ◌++◌, length, get_or, take, drop, sym, ap, ◌∙◌, subst₂, arith, take-append-drop, length-take}
+use Rattle.std.proofs.Common.{◌≡◌, ℕ, ◌+◌, ◌<◌, ◌≤◌, List, ◌∷◌, ◌++◌, length, get_or, take, drop, sym, ap, ◌∙◌, subst₂, arith, take-append-drop, length-take}
 use Rattle.std.proofs.lemmas.List.{drop_more, get_or-take}
 use Rattle.listing.specs.Input.{Parted, at_feed}
 

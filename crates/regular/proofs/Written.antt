@@ -1,6 +1,6 @@
 -- Positions in written order: each holds what the set that stands there holds. Assumes nothing.
 use Rattle.std.proofs.Common.{◌≡◌, ℕ, zero, suc, ◌+◌, ◌-◌, Bool, false, length, get_or, sym, refl, ⊎_elim, arith, length-append}
-use mathlib.Core.Bool.{or-false}
+use Rattle.std.proofs.Math.Bool.{or-false}
 use Rattle.std.proofs.lemmas.List.{get_or_append_left, get_or-append_right}
 use Rattle.std.proofs.lemmas.Bool.{cases_Bool, cases_lt, eq-eqb, ne_eqb}
 use Rattle.regular.specs.Language.{Regex, one, join, either, star, plus, maybe}

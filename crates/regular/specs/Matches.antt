@@ -1,5 +1,5 @@
 -- The matches of a text, as pairs of a start and an end, and the lists of them. Assumes nothing.
-use Rattle.std.specs.Prelude.{◌≡◌, ℕ, zero, suc, ◌+◌, ◌-◌, ◌<◌, ◌≤◌, cond, ◌⊎◌, List, [], ◌∷◌, ◌++◌, length, get_or, slice_index_or, slice_range}
+use Rattle.std.specs.Prelude.{◌≡◌, ℕ, zero, suc, ◌+◌, ◌<◌, ◌≤◌, cond, ◌⊎◌, List, [], ◌∷◌, ◌++◌, length, get_or, slice_index_or, slice_range}
 use Rattle.regular.specs.Language.{Regex, Word, Tail, Inhabited}
 use Rattle.regular.specs.Positions.{accepted, tailed}
 

@@ -44,7 +44,11 @@ fn engine_named(name: &[u8]) -> Option<usize>
     if name == b"tabled".as_slice() {
         return Some(1);
     }
-    if name == b"word".as_slice() { Some(2) } else { None }
+    if name == b"word".as_slice() {
+        Some(2)
+    } else {
+        None
+    }
 }
 
 // An engine's name and a blank, and what stands behind them.

@@ -1,5 +1,6 @@
 -- What the parts of an expression add to its tables, put together. Assumes nothing.
 use Rattle.std.proofs.Common.{◌≡◌, ℕ, zero, suc, ◌+◌, ◌^◌, ◌<◌, ◌≤◌, Bool, true, false, cond, ◌&&◌, ◌||◌, eqb, List, length, get_or, set, replicate, sym, refl, ap, ◌∙◌, subst, ap₂, arith}
+use Rattle.std.proofs.Math.Bool.{or-false}
 use lib.Bits.{bit_or, or_lt, or_zero_l, or_zero_r}
 use Rattle.std.proofs.lemmas.Nat.{pow_below}
 use Rattle.std.proofs.lemmas.List.{ext_get_or, length-set, length-replicate, get_or-replicate, get_or-set_same, get_or-set_other}
@@ -33,10 +34,6 @@ and_true false = refl
 and_false : (x : Bool) → false ≡ x && false
 and_false true = refl
 and_false false = refl
-
-or-false : (x : Bool) → x ≡ x || false
-or-false true = refl
-or-false false = refl
 
 no_from_not : (b : Bool) → (b ≡ true → ⊥) → b ≡ false
 no_from_not true h = absurd (h refl)
@@ -91,7 +88,7 @@ module _ (s : ℕ → Bool) (at : ℕ) (rows codes codes' : List ℕ) (fits : at
 
 firsts_join : (b : Bool) (f g : ℕ → Bool) → cond b (bit_or (as_set f) (as_set g)) (as_set f) ≡ as_set (λ q. f q || (b && g q))
 firsts_join true f g = set_or f g
-firsts_join false f g = set_like f (λ q. f q || false) (λ q. or-false (f q))
+firsts_join false f g = set_like f (λ q. f q || false) (λ q. sym (or-false (f q)))
 
 lasts_join : (b : Bool) (f g : ℕ → Bool) → cond b (bit_or (as_set f) (as_set g)) (as_set g) ≡ as_set (λ q. (f q && b) || g q)
 lasts_join true f g = set_or f g ∙ set_like (λ q. f q || g q) (λ q. (f q && true) || g q) (λ q. ap (λ x. x || g q) (and_true (f q)))
@@ -203,4 +200,4 @@ module _ (r : Regex) where
     where
       each : (q : ℕ) → begins r 0 q || (eqb q 0 && nullable r) ≡ final r q
       each zero = ap (λ x. x || nullable r) (no_from_not (begins r 0 0) (λ h. let k = begins_in r 0 0 h in omega arith))
-      each (suc p) = ap (λ x. begins r 0 (suc p) || (x && nullable r)) (ne_eqb (suc p) 0 (λ e. omega arith)) ∙ sym (or-false (begins r 0 (suc p)))
+      each (suc p) = ap (λ x. begins r 0 (suc p) || (x && nullable r)) (ne_eqb (suc p) 0 (λ e. omega arith)) ∙ or-false (begins r 0 (suc p))

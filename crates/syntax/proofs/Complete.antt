@@ -9,7 +9,7 @@ use Rattle.syntax.specs.declared.grammar.Begun.{Begun}
 use Rattle.syntax.specs.declared.grammar.Begun.TheVariants.{Not, Part, Whole}
 use Rattle.syntax.specs.Grammar.{plain, escaped, newline, pair, Value, single, range, Members, last, more, dot, unit, set, once, any, some_times, perhaps, Mark, Tree, Level, only, or, lone, row, marked, group, simple, closing, separator, written_value, written_member, written_members, written_simple, written_mark, written}
 use Rattle.syntax.specs.Grammar as syntax
-use Rattle.syntax.specs.Automaton.{begins, ends, State, pick, start, finish, outside, step, onward, run}
+use Rattle.syntax.specs.Automaton.{begins, ends, State, pick, start, finish, step, onward, run}
 
 -- outside sets: before an item, behind an atom, behind a mark
 pub data Place : Type 0 where

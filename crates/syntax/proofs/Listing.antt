@@ -1,5 +1,6 @@
 -- The members of a set, from place to place. Assumes nothing.
 use Rattle.std.proofs.Common.{◌≡◌, ℕ, ◌+◌, ◌<◌, ◌≤◌, Bool, true, false, cond, ◌&&◌, ◌||◌, eqb, ltb, leb, ◌⊎◌, List, [], ◌∷◌, ◌++◌, length, get_or, drop, Some, None, Option, sym, refl, ap, ◌∙◌, subst, inl, inr, append_assoc, append-nil, arith, length-append, length-drop}
+use Rattle.std.proofs.Math.Bool.{or-false}
 use Rattle.std.proofs.lemmas.Bool.{false≢true, lt-ltb, le-ltb, ltb-true, ne_eqb, cond_both}
 use Rattle.std.proofs.lemmas.Bool.Decides.{nat_tests}
 use Rattle.syntax.specs.declared.mode.Mode.{Mode}
@@ -93,10 +94,6 @@ abbrev pub reversed_left : {m : Mode} {w : List ℕ} {p : ℕ} → ℕ → Left 
 reversed_left {m} {p = p} o (some_left ys e) = reversed_members m ys (o + p)
 reversed_left o (none_left l) = []
 
-or-false : (b : Bool) → b ≡ (b || false)
-or-false true = refl
-or-false false = refl
-
 pub record Next (m : Mode) (w : List ℕ) (p : ℕ) (r : Left m w p) (l h q : ℕ) : Type 0 where
   pub member : Member m
   pub left : Left m w (q + length (separator m))
@@ -118,7 +115,7 @@ module _ (m : Mode) (w : List ℕ) (p : ℕ) where
         left = none_left (omega (arith, z, ap length f, length-drop p w));
         low_is = x;
         high_is = y;
-        held = λ c. or-false (in_member m k c);
+        held = λ c. sym (or-false (in_member m k c));
         reversed = λ o. sym (append-nil _);
       }
   next (some_left (more k ys) f) l h q e =

@@ -10,7 +10,7 @@ use Rattle.syntax.specs.declared.grammar.Begun.TheVariants.{Not, Part, Whole}
 use Rattle.syntax.specs.Grammar.{plain, escaped, newline, pair, Value, single, range, Members, last, more, dot, unit, set, once, any, some_times, perhaps, Mark, Tree, expression, branch, item, atom, only, or, lone, row, marked, group, simple, special, digit, opening, closing, caret, written_value, written_member, written_members, written_mark, written}
 use Rattle.syntax.specs.Grammar as syntax
 use Rattle.syntax.specs.Automaton.{begins, ends, State, pick, start, finish, between, further, closed, sign, outside, step, onward, run, final}
-use Rattle.syntax.proofs.Complete.{Place, before, behind_atom, behind_mark, form}
+use Rattle.syntax.proofs.Complete.{Place, before, behind_atom, behind_mark}
 
 -- values from their bytes
 part_not_whole : (t : Bool) → cond t Part Not ≡ Whole → ⊥

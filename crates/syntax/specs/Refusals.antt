@@ -1,5 +1,5 @@
 -- Where an expression of the grammar breaks a limit, and how far bytes that are none can be read. Assumes nothing.
-use Rattle.std.specs.Prelude.{◌≡◌, ℕ, ◌+◌, ◌<◌, ◌≤◌, cond, not, List, [], ◌∷◌, ◌++◌, length, take, drop, Some, None, Option, ◌≢◌, nat_lt}
+use Rattle.std.specs.Prelude.{◌≡◌, ℕ, ◌+◌, ◌<◌, ◌≤◌, cond, List, [], ◌∷◌, ◌++◌, length, take, drop, Some, None, Option, ◌≢◌, nat_lt}
 use Rattle.std.specs.List.{flat_map}
 use Rattle.regular.specs.Positions.{some_below}
 use Rattle.refusal.specs.declared.Fault.{Fault}

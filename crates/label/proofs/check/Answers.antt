@@ -1,4 +1,4 @@
-use Rattle.std.proofs.Common.{ℕ, ◌<◌, ◌≤◌, sym, ◌∙◌, subst, arith, rules, below_more}
+use Rattle.std.proofs.Common.{◌<◌, ◌≤◌, sym, ◌∙◌, subst, arith, rules, below_more}
 use Rattle.label.specs.declared.Field.{Field}
 use Rattle.label.specs.Labels.{entry, Within, Sound}
 use Rattle.label.specs.Reading.{unknown, outside}

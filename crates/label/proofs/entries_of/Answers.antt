@@ -1,5 +1,5 @@
 -- Each refusal has its constructor; what is left is the length of the rest that the pattern gives.
-use Rattle.std.proofs.Common.{arith, rules}
+use Rattle.std.proofs.Common.{rules}
 use native.Mathlib.Nat.{sub-zero}
 use Rattle.std.proofs.lemmas.List.{take_rest}
 use Rattle.label.specs.Reading.{short, other_edition, many, cut_off, narrow}

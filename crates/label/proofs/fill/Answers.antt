@@ -1,5 +1,4 @@
-use Rattle.std.proofs.Common.{◌≡◌, ℕ, ◌+◌, ◌<◌, ◌≢◌, length, get_or, drop, set, sym, ap, ◌∙◌, subst, arith, get_or-set_other, get_or-set_same, rules, below_more}
-use Rattle.label.specs.declared.Field.{Field}
+use Rattle.std.proofs.Common.{◌≡◌, ◌<◌, ◌≢◌, length, get_or, drop, set, sym, ◌∙◌, subst, arith, get_or-set_other, get_or-set_same, rules, below_more}
 use Rattle.label.specs.Labels.{count, entry}
 use Rattle.label.proofs.Entries.{turn, all_taken, rest_stays}
 use Rattle.label.proofs.fill.Goals as goal

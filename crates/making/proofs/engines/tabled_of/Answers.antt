@@ -1,7 +1,5 @@
-use Rattle.std.proofs.Common.{sym, subst, inl, inr, ⊎_elim}
+use Rattle.std.proofs.Common.{inl, inr}
 use Rattle.std.proofs.lemmas.Result.{MatchResult-weaker, err_from_is_err_and}
-use Rattle.syntax.specs.Reading.{Accepted}
-use Rattle.syntax.specs.declared.mode.Mode.{Mode}
 use Rattle.making.proofs.Handing.{tabled_made}
 use Rattle.making.proofs.engines.tabled_of.Goals as goal
 

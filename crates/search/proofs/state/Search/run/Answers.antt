@@ -4,7 +4,6 @@ use Rattle.std.proofs.lemmas.Bool.{lt-ltb, le-ltb, or_left}
 use Rattle.search.specs.Rules.{finished, crowded}
 use Rattle.search.specs.Calls.{held, ran, Stepped, Held, RanBy}
 use Rattle.search.proofs.Running.{runs_start, runs_more, ran_stop, ran_by, stop_finished, stop_budget, stop_room}
-use Rattle.search.proofs.state.Search.run.Given as given
 use Rattle.search.proofs.state.Search.run.Goals as goal
 
 pub loop-self-init : goal.loop-self-init
