@@ -35,7 +35,9 @@ pub trait Engine {
         ensures forward { 1 ≤ result }
         ensures value { AtTails (expression self.now) (after self.now) state (λ v. result ≡ shift self.now v) };
 
+    // Two laws, which every implementation has to show. Every set of the expression holds some code:
     ghost inhabited: { (e : Self) → Inhabited (expression e) };
 
+    // and a shift goes on, past no match.
     ghost skips: { (e : Self) → Skips (expression e) (shift e) };
 }

@@ -3,7 +3,7 @@ use Rattle.std.proofs.Common.{◌≡◌, ℕ, ◌+◌, ◌*◌, ◌<◌, ◌≤�
 use Rattle.std.proofs.lemmas.List.{length-take-le, get_or_append_left, get_or-take, get_or-drop, drop_at, drop-drop, drop-set-lt}
 use Rattle.std.proofs.lemmas.Bool.{leb-true, leb-false, and_parts, and_cases}
 use Rattle.label.specs.declared.Field.{Field}
-use Rattle.label.specs.Labels.{count, place, headerEnd, field, entry, isWithin, Within, Sound}
+use Rattle.label.specs.Labels.{count, place, header_end, field, entry, lies_within, Within, Sound}
 
 -- a field is told by four bytes
 field_by : (a b : List ℕ) → ((k : ℕ) → k < 4 → get_or a k 0 ≡ get_or b k 0) → field a ≡ field b
@@ -28,7 +28,7 @@ pub record Turn (label entries : List ℕ) (i : ℕ) (chunk : List ℕ) (n n' si
   pub says : field chunk ≡ entry label i
   pub onward : Taken entries n' size' rest'
 
-module _ (label : List ℕ) {entries : List ℕ} (are : entries ≡ take (4 * count label) (drop 2 label)) (whole : headerEnd label ≤ length label) where
+module _ (label : List ℕ) {entries : List ℕ} (are : entries ≡ take (4 * count label) (drop 2 label)) (whole : header_end label ≤ length label) where
   pub length_entries : length entries ≡ 4 * count label
   length_entries = ap length are ∙ length-take-le (4 * count label) (drop 2 label) (simp length-drop (omega arith))
 
@@ -67,14 +67,14 @@ module _ (label : List ℕ) {entries : List ℕ} (are : entries ≡ take (4 * co
 
   -- the test of a field tells whether its part lies within
   module _ (f : Field) where
-    pub not_within : isWithin f (2 + length entries) (length label) ≡ false → Within label f → ⊥
+    pub not_within : lies_within f (2 + length entries) (length label) ≡ false → Within label f → ⊥
     not_within failed w =
         ⊎_elim
         (λ e. omega (arith, length_entries, leb-false (2 + length entries) f.offset e, w.behind))
         (λ e. omega (arith, leb-false (f.offset + f.length) (length label) e, w.inside))
         (and_cases (leb (2 + length entries) f.offset) (leb (f.offset + f.length) (length label)) failed)
 
-    pub is_sound : f.identifier ≤ 99 → isWithin f (2 + length entries) (length label) ≡ true → Sound label f
+    pub is_sound : f.identifier ≤ 99 → lies_within f (2 + length entries) (length label) ≡ true → Sound label f
     is_sound known passed =
         let (a, b) = and_parts (leb (2 + length entries) f.offset) (leb (f.offset + f.length) (length label)) passed in
         record {

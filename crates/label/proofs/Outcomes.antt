@@ -4,7 +4,7 @@ use Rattle.std.proofs.lemmas.Bool.{cases_order, lt-ltb, le-ltb, eq-eqb, ne_eqb}
 use Rattle.refusal.specs.declared.Fault.{Fault}
 use Rattle.refusal.specs.declared.Fault.TheVariants.{LabelTooShort, UnknownEdition, TooManyEntries, TooFewFields, UnknownIdentifier, PartOutside}
 use Rattle.label.specs.declared.Field.{Field}
-use Rattle.label.specs.Labels.{edition, count, place, headerEnd, entry, Sound, WellFormed}
+use Rattle.label.specs.Labels.{edition, count, place, header_end, entry, Sound, WellFormed}
 use Rattle.label.specs.Reading.{Looked, Unsound, unknown, outside, Refused, short, other_edition, many, cut_off, narrow, unsound, Reads}
 
 module _ (label : List ℕ) where
@@ -40,7 +40,7 @@ module _ (label : List ℕ) (room : ℕ) where
       cond (ltb (length label) 2) 0
       (cond (eqb (edition label) 3)
       (cond (ltb 32 (count label)) 2
-      (cond (ltb (length label) (headerEnd label)) 3
+      (cond (ltb (length label) (header_end label)) 3
       (cond (ltb room (count label)) 4 5))) 1)
 
   -- what is told by that
@@ -64,9 +64,9 @@ module _ (label : List ℕ) (room : ℕ) where
   told (short less) = rw (lt-ltb (length label) 2 less) refl
   told (other_edition two other) = rw (le-ltb (length label) 2 two, ne_eqb (edition label) 3 other) refl
   told (many two third more) = rw (le-ltb (length label) 2 two, eq-eqb (edition label) 3 third, lt-ltb 32 (count label) more) refl
-  told (cut_off two third few less) = rw (le-ltb (length label) 2 two, eq-eqb (edition label) 3 third, le-ltb 32 (count label) few, lt-ltb (length label) (headerEnd label) less) refl
-  told (narrow header less) = rw (le-ltb (length label) 2 header.begun, eq-eqb (edition label) 3 header.third, le-ltb 32 (count label) header.few, le-ltb (length label) (headerEnd label) header.whole, lt-ltb room (count label) less) refl
-  told (unsound header r why) = rw (le-ltb (length label) 2 header.begun, eq-eqb (edition label) 3 header.third, le-ltb 32 (count label) header.few, le-ltb (length label) (headerEnd label) header.whole, le-ltb room (count label) r) why
+  told (cut_off two third few less) = rw (le-ltb (length label) 2 two, eq-eqb (edition label) 3 third, le-ltb 32 (count label) few, lt-ltb (length label) (header_end label) less) refl
+  told (narrow header less) = rw (le-ltb (length label) 2 header.begun, eq-eqb (edition label) 3 header.third, le-ltb 32 (count label) header.few, le-ltb (length label) (header_end label) header.whole, lt-ltb room (count label) less) refl
+  told (unsound header r why) = rw (le-ltb (length label) 2 header.begun, eq-eqb (edition label) 3 header.third, le-ltb 32 (count label) header.few, le-ltb (length label) (header_end label) header.whole, le-ltb room (count label) r) why
 
   one_refusal : {f g : Fault} → Refused label room f → Refused label room g → f ≡ g
   one_refusal p q = one_at passed (told p) (told q)

@@ -12,8 +12,8 @@ count label = slice_index label 1
 abbrev pub place : ℕ → ℕ
 place i = 2 + 4 * i
 
-abbrev pub headerEnd : List ℕ → ℕ
-headerEnd label = place (count label)
+abbrev pub header_end : List ℕ → ℕ
+header_end label = place (count label)
 
 -- four bytes of an entry: the identifier, the length of the part, and its offset from the label's start, high byte first
 abbrev pub field : List ℕ → Field
@@ -23,11 +23,11 @@ abbrev pub entry : List ℕ → ℕ → Field
 entry label i = field (drop (place i) label)
 
 -- the field's part starts at or after the header's end and ends at or before the label's
-abbrev pub isWithin : Field → ℕ → ℕ → Bool
-isWithin f start end = nat_le start f.offset && nat_le (f.offset + f.length) end
+abbrev pub lies_within : Field → ℕ → ℕ → Bool
+lies_within f start end = nat_le start f.offset && nat_le (f.offset + f.length) end
 
 pub record Within (label : List ℕ) (f : Field) : Type 0 where
-  pub behind : headerEnd label ≤ f.offset
+  pub behind : header_end label ≤ f.offset
   pub inside : f.offset + f.length ≤ length label
 
 pub record Sound (label : List ℕ) (f : Field) : Type 0 where
@@ -39,7 +39,7 @@ pub record Headed (label : List ℕ) : Type 0 where
   pub begun : 2 ≤ length label
   pub third : edition label ≡ 3
   pub few : count label ≤ 32
-  pub whole : headerEnd label ≤ length label
+  pub whole : header_end label ≤ length label
 
 pub record WellFormed (label : List ℕ) : Type 0 where
   pub header : Headed label

@@ -1,9 +1,9 @@
 -- What reading a label gives: the fields, or the first refusal that applies. Assumes nothing.
-use Rattle.std.specs.Prelude.{◌≡◌, ℕ, ◌<◌, ◌≤◌, true, List, length, get_or, drop, is_ok, Err, Result, MatchResult, ◌≢◌, slice_index_or}
+use Rattle.std.specs.Prelude.{◌≡◌, ℕ, ◌<◌, ◌≤◌, true, List, length, drop, is_ok, Err, Result, MatchResult, ◌≢◌, slice_index_or}
 use Rattle.refusal.specs.declared.Fault.{Fault}
 use Rattle.refusal.specs.declared.Fault.TheVariants.{LabelTooShort, UnknownEdition, TooManyEntries, TooFewFields, UnknownIdentifier, PartOutside}
 use Rattle.label.specs.declared.Field.{Field}
-use Rattle.label.specs.Labels.{edition, count, place, headerEnd, entry, Within, Sound, Headed, WellFormed}
+use Rattle.label.specs.Labels.{edition, count, place, header_end, entry, Within, Sound, Headed, WellFormed}
 
 -- the entry i is looked at, since all before it are sound
 pub record Looked (label : List ℕ) (i : ℕ) : Type 0 where
@@ -20,7 +20,7 @@ pub data Refused (label : List ℕ) (room : ℕ) : Fault → Type 0 where
   short : length label < 2 → Refused label room (LabelTooShort (length label))
   other_edition : 2 ≤ length label → (edition label ≢ 3) → Refused label room UnknownEdition
   many : 2 ≤ length label → edition label ≡ 3 → 32 < count label → Refused label room TooManyEntries
-  cut_off : 2 ≤ length label → edition label ≡ 3 → count label ≤ 32 → length label < headerEnd label → Refused label room (LabelTooShort (length label))
+  cut_off : 2 ≤ length label → edition label ≡ 3 → count label ≤ 32 → length label < header_end label → Refused label room (LabelTooShort (length label))
   narrow : Headed label → room < count label → Refused label room TooFewFields
   unsound : {f : Fault} → Headed label → count label ≤ room → Unsound label f → Refused label room f
 
@@ -30,7 +30,7 @@ pub record Filled (label : List ℕ) (before after : List Field) (n : ℕ) : Typ
   pub room : count label ≤ length before
   pub counted : n ≡ count label
   pub fields : (i : ℕ) (d : Field) → i < n → slice_index_or after i d ≡ entry label i
-  pub known : (i : ℕ) (d : Field) → i < n → (get_or after i d).identifier ≤ 99
+  pub known : (i : ℕ) (d : Field) → i < n → (slice_index_or after i d).identifier ≤ 99
   pub rest : drop n after ≡ drop n before
 
 -- a label that is refused leaves the list as it was

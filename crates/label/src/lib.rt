@@ -3,7 +3,7 @@
 #![tactic(auto)]
 
 ghost use Rattle.std.specs.Prelude.{◌≡◌, ℕ, ◌+◌, ◌*◌, ◌<◌, ◌≤◌, length, take, drop, MatchResult, slice_index_or};
-ghost use Rattle.label.specs.Labels.{field, entry, count, isWithin, Headed, Sound};
+ghost use Rattle.label.specs.Labels.{field, entry, count, lies_within, Headed, Sound};
 ghost use Rattle.label.specs.Reading.{Refused, Unsound, Reads};
 
 use engine::Symbol;
@@ -93,7 +93,7 @@ fn field_of(entry: &[u8]) -> Field
 
 // Whether the field's bytes lie between the header's end and the label's.
 fn is_within(field: Field, header_end: usize, label_end: usize) -> bool
-    ensures { result ≡ isWithin field header_end label_end }
+    ensures { result ≡ lies_within field header_end label_end }
 {
     let start = field.offset as usize;
     header_end <= start && start + field.length as usize <= label_end

@@ -1,8 +1,7 @@
 // The job of the program: an expression and a text go in, every match comes out.
-ghost use Rattle.std.specs.Prelude.{◌≡◌, ◌≤◌, length};
+ghost use Rattle.std.specs.Prelude.{◌≤◌, length};
 ghost use Rattle.listing.specs.Job.{Found};
 
-use engine::Engine;
 use expression::{Mode, read};
 use finder::{Listing, list_all};
 use refusal::Fault;

@@ -149,7 +149,7 @@ impl From<AllocError> for Fault {
 impl<T: Drop> From<AllocFailed<T>> for Fault {
     ghost from_gives = { λ _ r. r ≡ Memory };
 
-    fn from(_refused: AllocFailed<T>) -> Fault {
+    fn from(_failed: AllocFailed<T>) -> Fault {
         Fault::Memory
     }
 }

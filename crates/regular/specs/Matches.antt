@@ -1,5 +1,5 @@
 -- The matches of a text, as pairs of a start and an end, and the lists of them. Assumes nothing.
-use Rattle.std.specs.Prelude.{◌≡◌, ℕ, zero, suc, ◌+◌, ◌<◌, ◌≤◌, cond, ◌⊎◌, List, [], ◌∷◌, ◌++◌, length, get_or, slice_index_or, slice_range}
+use Rattle.std.specs.Prelude.{◌≡◌, ℕ, zero, suc, ◌+◌, ◌<◌, ◌≤◌, cond, ◌⊎◌, List, [], ◌∷◌, ◌++◌, length, slice_index_or, slice_range}
 use Rattle.regular.specs.Language.{Regex, Word, Tail, Inhabited}
 use Rattle.regular.specs.Positions.{accepted, tailed}
 
@@ -42,7 +42,7 @@ Precedes p q = (p.1 < q.1) ⊎ ((p.1 ≡ q.1) × (q.0 < p.0))
 
 -- the list is exactly the matches that end at from or later and before next, each once, in order
 pub record Exactly (r : Regex) (t : List ℕ) (from next : ℕ) (xs : List (ℕ × ℕ)) : Type 0 where
-  pub sound : (i : ℕ) → i < length xs → IsMatch r t (slice_index_or xs i (0, 0)) × (from ≤ (get_or xs i (0, 0)).1) × ((get_or xs i (0, 0)).1 < next)
+  pub sound : (i : ℕ) → i < length xs → IsMatch r t (slice_index_or xs i (0, 0)) × (from ≤ (slice_index_or xs i (0, 0)).1) × ((slice_index_or xs i (0, 0)).1 < next)
   pub complete : (p : ℕ × ℕ) → IsMatch r t p → from ≤ p.1 → p.1 < next → (i : ℕ) × (i < length xs) × (slice_index_or xs i (0, 0) ≡ p)
   pub ordered : (i j : ℕ) → i < j → j < length xs → Precedes (slice_index_or xs i (0, 0)) (slice_index_or xs j (0, 0))
 

@@ -33,7 +33,7 @@ impl From<AllocError> for Misread {
 impl<T: Drop> From<AllocFailed<T>> for Misread {
     ghost from_gives = { λ _ r. r ≡ Misread.Memory };
 
-    fn from(_refused: AllocFailed<T>) -> Misread {
+    fn from(_failed: AllocFailed<T>) -> Misread {
         Misread::Memory
     }
 }

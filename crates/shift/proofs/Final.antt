@@ -179,11 +179,11 @@ module _ (r : Regex) (few : size r ≤ 63) where
     abbrev ListedIn : List (List ℕ) → List ℕ → Type 0
     ListedIn found w = Member w found × ((length w ≡ upto k (way_of r found q)) × ((p : ℕ) × (p < size r + 1) × ((reached r w p ≡ true) × Onward r p q)))
 
-    abbrev valueIn : List (List ℕ) → List ℕ → Distance
-    valueIn found w = lesser (first_of found w) (finite (second_of k found w))
+    abbrev value_in : List (List ℕ) → List ℕ → Distance
+    value_in found w = lesser (first_of found w) (finite (second_of k found w))
 
-    pieces : (n : ℕ) → ((w : List ℕ) × ListedIn fs w × (valueIn fs w ≡ finite n)) ↔ PieceJump r k q n
-    pieces n = subst (λ (found : List (List ℕ)). ((w : List ℕ) × ListedIn found w × (valueIn found w ≡ finite n)) ↔ PieceJump r k q n) (sym G.spelt) (pieces_listed r h codes W m k S le q n)
+    pieces : (n : ℕ) → ((w : List ℕ) × ListedIn fs w × (value_in fs w ≡ finite n)) ↔ PieceJump r k q n
+    pieces n = subst (λ (found : List (List ℕ)). ((w : List ℕ) × ListedIn found w × (value_in found w ≡ finite n)) ↔ PieceJump r k q n) (sym G.spelt) (pieces_listed r h codes W m k S le q n)
 
     there : (w : List ℕ) × ListedIn fs w
     there = let (v, leads) = led_to r h q ql in subst (λ (found : List (List ℕ)). (w : List ℕ) × ListedIn found w) (sym G.spelt) (listed_there r h codes W m k S le q v leads)
@@ -212,7 +212,7 @@ module _ (r : Regex) (few : size r ≤ 63) where
           and_from _ _
               (eq-eqb (piece ps i).span short ((W'.1 i l).span ∙ sym (length_word ts i) ∙ ap length (sym e) ∙ long ∙ sym (short_same (length ts) (omega arith))))
               ((onward_is (at ts i).positions (piece ps i).onward (word_at ts i) (G.leads i l) (W'.1 i l).onward q q64).1 (subst (λ (w : List ℕ). (p : ℕ) × (p < size r + 1) × ((reached r w p ≡ true) × Onward r p q)) e on)),
-          finite_same ((W'.1 i l).nearest ∙ ap (valueIn fs) (sym e) ∙ v),
+          finite_same ((W'.1 i l).nearest ∙ ap (value_in fs) (sym e) ∙ v),
         )
 
     pub jump_right : PositionJump r k q (jump_in ps k short q (length ts))

@@ -1,5 +1,5 @@
 -- What a tree that was read stands for: its expression and, where it is a plain word, that word. Assumes nothing.
-use Rattle.std.specs.Prelude.{◌≡◌, ℕ, Bool, true, false, cond, not, ◌&&◌, List, length, get_or, Some, None, Option, ◌==◌, nat_le, nat_lt, slice_index_or}
+use Rattle.std.specs.Prelude.{◌≡◌, ℕ, Bool, true, false, cond, not, ◌&&◌, List, length, Some, None, Option, ◌==◌, nat_le, nat_lt, slice_index_or}
 use Rattle.regular.specs.Language.{Regex, one, join, either, star, plus, maybe}
 use Rattle.regular.specs.Positions.{some_below}
 use Rattle.syntax.specs.declared.tree.Node.{Node}
@@ -8,7 +8,7 @@ use Rattle.syntax.specs.Grammar.{Mark, repeated, letter, in_a_row, unless_marked
 
 -- a group means what it holds
 abbrev pub language : Node → Regex
-language (Atom a) = one (λ c. get_or a.codes c false)
+language (Atom a) = one (λ c. slice_index_or a.codes c false)
 language (Group' p a) = language a
 language (Join' p a q b) = join (language a) (language b)
 language (Either' p a q b) = either (language a) (language b)

@@ -2,7 +2,7 @@
 ghost use Rattle.std.specs.Prelude.{◌≡◌};
 ghost use Rattle.syntax.specs.Grammar.{opening, closing, top};
 
-/// What an expression is written for: `[a_c]` is a set of bytes, `<01-03>` one of fields.
+/// What an expression is written for: `[a-c]` is a set of bytes, `<01-03>` one of fields.
 #[derive(Clone, Copy)]
 pub enum Mode {
     Bytes,

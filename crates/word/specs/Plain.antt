@@ -73,32 +73,32 @@ module _ (n : Node) (few : size (language n) ≤ 63) (x : exact n ≡ true) (w l
   made_exact = moves_exact n few x letters (e ∙ ap Some (sym same)) jumps (subst (λ (l : List ℕ). (j : ℕ) → j < length l + 1 → LeastMove l j (slice_index jumps j)) is each)
 
 module _ (e : Word) where
-  abbrev pub word : List ℕ
-  word = vec_items e.letters
+  abbrev pub own_word : List ℕ
+  own_word = vec_items e.letters
 
-  abbrev pub expression : Regex
-  expression = language e.expression.tree
+  abbrev pub own_expression : Regex
+  own_expression = language e.expression.tree
 
-  pub alone : (v : List ℕ) → language_of.Word expression v ↔ (v ≡ word)
-  alone = spelled_alone e.expression.tree word e.expression.exact (there (spelling e.expression.tree) word e.plain e.spells)
+  pub alone : (v : List ℕ) → language_of.Word own_expression v ↔ (v ≡ own_word)
+  alone = spelled_alone e.expression.tree own_word e.expression.exact (there (spelling e.expression.tree) own_word e.plain e.spells)
 
-  module _ (v : List ℕ) (tail : Tail expression v) where
+  module _ (v : List ℕ) (tail : Tail own_expression v) where
     pub counted : length v < length (vec_items e.jumps)
-    counted = omega (arith, (tail_last expression word alone v tail).1, e.count)
+    counted = omega (arith, (tail_last own_expression own_word alone v tail).1, e.count)
 
-    pub final_is : (length v ≡ length word) ↔ language_of.Word expression v
-    final_is = (λ same. (alone v).1 (full_is expression word alone v (record { tail = tail; long = same })), λ p. ap length ((alone v).0 p))
+    pub final_is : (length v ≡ length own_word) ↔ language_of.Word own_expression v
+    final_is = (λ same. (alone v).1 (full_is own_expression own_word alone v (record { tail = tail; long = same })), λ p. ap length ((alone v).0 p))
 
-    pub jump_is : WordJumps expression word (vec_items e.jumps) → WholeJump expression v (slice_index (vec_items e.jumps) (length v))
+    pub jump_is : WordJumps own_expression own_word (vec_items e.jumps) → WholeJump own_expression v (slice_index (vec_items e.jumps) (length v))
     jump_is P =
-        let (is, l) = tail_last expression word alone v tail in
-        subst (λ (z : List ℕ). WholeJump expression z (slice_index (vec_items e.jumps) (length v))) (sym is) (P (length v) l)
+        let (is, l) = tail_last own_expression own_word alone v tail in
+        subst (λ (z : List ℕ). WholeJump own_expression z (slice_index (vec_items e.jumps) (length v))) (sym is) (P (length v) l)
 
-    pub advance_is : (c j : ℕ) (o : Option ℕ) (letters : List ℕ) → letters ≡ word → j ≡ length v
-        → MatchOption o (Precedes letters j c → ⊥) (λ s. Precedes letters j c × (s ≡ j + 1)) → MatchOption o (Tail expression (c ∷ v) → ⊥) (λ s. Tail expression (c ∷ v) × (s ≡ length (c ∷ v)))
-    advance_is c j None letters is at h = λ t. h (subst (λ (z : List ℕ). Precedes z j c) (sym is) (subst (λ (i : ℕ). Precedes word i c) (sym at) (longer_is expression word alone c v tail t)))
+    pub advance_is : (c j : ℕ) (o : Option ℕ) (letters : List ℕ) → letters ≡ own_word → j ≡ length v
+        → MatchOption o (Precedes letters j c → ⊥) (λ s. Precedes letters j c × (s ≡ j + 1)) → MatchOption o (Tail own_expression (c ∷ v) → ⊥) (λ s. Tail own_expression (c ∷ v) × (s ≡ length (c ∷ v)))
+    advance_is c j None letters is at h = λ t. h (subst (λ (z : List ℕ). Precedes z j c) (sym is) (subst (λ (i : ℕ). Precedes own_word i c) (sym at) (longer_is own_expression own_word alone c v tail t)))
     advance_is c j (Some s) letters is at (p, k) =
-        (longer_tail expression word alone c v tail (subst (λ (i : ℕ). Precedes word i c) at (subst (λ (z : List ℕ). Precedes z j c) is p)), omega arith)
+        (longer_tail own_expression own_word alone c v tail (subst (λ (i : ℕ). Precedes own_word i c) at (subst (λ (z : List ℕ). Precedes z j c) is p)), omega arith)
 
 pub entry_forward : (jumps : List ℕ) → ((j : ℕ) → j < length jumps → 1 ≤ slice_index jumps j) → (j : ℕ) → 1 ≤ cond (nat_lt j (length jumps)) (slice_index jumps j) 1
 entry_forward jumps f j = cond_both (nat_lt j (length jumps)) (slice_index jumps j) 1 (λ x. 1 ≤ x) (λ t. f j (ltb-true j (length jumps) t)) (λ _. omega arith)

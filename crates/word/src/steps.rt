@@ -4,8 +4,7 @@ ghost use Rattle.word.specs.Exact.{MadeFor};
 ghost use Rattle.syntax.proofs.Filled.{full_inhabited};
 ghost use Rattle.std.proofs.Math.Logic.{∥∥₁_elim};
 ghost use Rattle.distance.proofs.Safe.{jumps_safe};
-ghost use Rattle.word.specs.Plain;
-ghost use Rattle.word.specs.Plain.{counted, jump_is};
+ghost use Rattle.word.specs.Plain.{own_expression, counted, jump_is};
 
 use crate::jumps::{all_jumps, entry};
 use crate::letters::{is_plain, next, spell};
@@ -51,7 +50,7 @@ impl Engine for Word {
 
     ghost skips = { λ e v tail. (
       e.forward (length v) (counted e v tail),
-      λ u x l k w. ∥∥₁_elim e.exact (λ a. absurd a) (λ P. (jumps_safe.whole (Plain.expression e) (λ v. slice_index e.jumps.items (length v)) (λ v t. jump_is e v t P) v tail).1 u x l k w),
+      λ u x l k w. ∥∥₁_elim e.exact (λ a. absurd a) (λ P. (jumps_safe.whole (own_expression e) (λ v. slice_index e.jumps.items (length v)) (λ v t. jump_is e v t P) v tail).1 u x l k w),
     ) };
 
     fn start(&self) -> usize {
