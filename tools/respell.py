@@ -2,7 +2,7 @@
 """Brings the repository's own definitions and lemmas to snake case, and its types to camel case.
 usage, once, at the top of the repository, after the kit's port.py: tools/respell.py
 
-A name is ours if it has a hyphen, stands in specs/ or in a lemma file of proofs/, and comes from no library. Names made from the code (goals, steps
+A name is ours if it has a hyphen, stands in specs/ or in a lemma file of proofs/, and comes from no library; the three of CAMEL are ours too. Names made from the code (goals, steps
 of a walk) keep their hyphens, and so do the library's. The names of OTHERWISE get another spelling, since with underscores they would fall together
 with a function, a crate or a word of the library. Changed are specs/, proofs/, the clauses of src/ (neither its comments nor its strings), and
 what README.md and docs/ have in backquotes."""
