@@ -2,12 +2,20 @@
 
 #![tactic(auto)]
 
-ghost use Rattle.std.specs.Prelude.{◌≡◌};
-ghost use Rattle.refusal.specs.Refusals.{number, layer, place};
+ghost use Rattle.std.specs.Prelude.{◌≡◌, Some};
+ghost use Rattle.refusal.specs.Refusals.{refusal, number, layer, place};
+ghost use Rattle.refusal.specs.Messages.{fault_text};
 ghost use Rattle.refusal.specs.declared.Fault.TheVariants.{Memory};
 
 use std::alloc::{AllocError, AllocFailed};
+use std::error::Error;
 use std::fmt;
+
+/// The most bytes that an expression may have.
+pub const LONGEST_EXPRESSION: usize = 1_024;
+
+/// The most symbols that a text may have.
+pub const LONGEST_TEXT: usize = 65_535;
 
 /// The part of the finder that turns a call down.
 #[derive(Clone, Copy, Debug, PartialEq, Eq)]
@@ -16,6 +24,14 @@ pub enum Layer {
     Engine,
     Search,
     Label,
+}
+
+/// What a refusal carries upwards: its number, the layer that refuses, and where the fault lies in what was given.
+#[derive(Clone, Copy, Debug, PartialEq, Eq)]
+pub struct Refusal {
+    pub number: u8,
+    pub layer: Layer,
+    pub place: usize,
 }
 
 /// Why a call is turned down. A place that the rules fix is not stored: `TextTooLong` is always at 65,535.
@@ -60,81 +76,56 @@ pub enum Fault {
 }
 
 impl Fault {
+    /// What the fault carries upwards; want of memory is no refusal: `Fault::TextTooLong.refusal()` is number 8, of the search, at 65,535.
+    pub fn refusal(self) -> Option<Refusal>
+        ensures { result ≡ refusal self }
+    {
+        let (number, layer, place) = match self {
+            Fault::ExpressionTooLong => (1, Layer::Expression, LONGEST_EXPRESSION),
+            Fault::NotInGrammar { place } => (2, Layer::Expression, place),
+            Fault::TooDeep { place } => (3, Layer::Expression, place),
+            Fault::ReversedRange { place } => (4, Layer::Expression, place),
+            Fault::EmptySet { place } => (5, Layer::Expression, place),
+            Fault::TooManyPositions { place } => (6, Layer::Expression, place),
+            Fault::NoPlainWord => (7, Layer::Engine, 0),
+            Fault::TextTooLong => (8, Layer::Search, LONGEST_TEXT),
+            Fault::Finished { place } => (9, Layer::Search, place),
+            Fault::NoRoom { place, .. } => (10, Layer::Search, place),
+            Fault::BeyondText { place } => (11, Layer::Search, place),
+            Fault::LabelTooShort { length } => (12, Layer::Label, length),
+            Fault::UnknownEdition => (13, Layer::Label, 0),
+            Fault::TooManyEntries => (13, Layer::Label, 1),
+            Fault::UnknownIdentifier { place } => (14, Layer::Label, place),
+            Fault::PartOutside { place } => (15, Layer::Label, place),
+            Fault::TooFewFields => (16, Layer::Label, 1),
+            Fault::Memory => return None,
+        };
+        Some(Refusal {
+            number,
+            layer,
+            place,
+        })
+    }
+
     /// The refusal's number: `Fault::TextTooLong.number()` is `Some(8)`.
     pub fn number(self) -> Option<u8>
         ensures { result ≡ number self }
     {
-        let number = match self {
-            Fault::ExpressionTooLong => 1,
-            Fault::NotInGrammar { .. } => 2,
-            Fault::TooDeep { .. } => 3,
-            Fault::ReversedRange { .. } => 4,
-            Fault::EmptySet { .. } => 5,
-            Fault::TooManyPositions { .. } => 6,
-            Fault::NoPlainWord => 7,
-            Fault::TextTooLong => 8,
-            Fault::Finished { .. } => 9,
-            Fault::NoRoom { .. } => 10,
-            Fault::BeyondText { .. } => 11,
-            Fault::LabelTooShort { .. } => 12,
-            Fault::UnknownEdition | Fault::TooManyEntries => 13,
-            Fault::UnknownIdentifier { .. } => 14,
-            Fault::PartOutside { .. } => 15,
-            Fault::TooFewFields => 16,
-            Fault::Memory => return None,
-        };
-        Some(number)
+        Some(self.refusal()?.number)
     }
 
     /// The layer that refuses: `Fault::TextTooLong.layer()` is `Some(Layer::Search)`.
     pub fn layer(self) -> Option<Layer>
         ensures { result ≡ layer self }
     {
-        match self {
-            Fault::ExpressionTooLong
-            | Fault::NotInGrammar { .. }
-            | Fault::TooDeep { .. }
-            | Fault::ReversedRange { .. }
-            | Fault::EmptySet { .. }
-            | Fault::TooManyPositions { .. } => Some(Layer::Expression),
-            Fault::NoPlainWord => Some(Layer::Engine),
-            Fault::TextTooLong
-            | Fault::Finished { .. }
-            | Fault::NoRoom { .. }
-            | Fault::BeyondText { .. } => Some(Layer::Search),
-            Fault::LabelTooShort { .. }
-            | Fault::UnknownEdition
-            | Fault::TooManyEntries
-            | Fault::TooFewFields
-            | Fault::UnknownIdentifier { .. }
-            | Fault::PartOutside { .. } => Some(Layer::Label),
-            Fault::Memory => None,
-        }
+        Some(self.refusal()?.layer)
     }
 
     /// Where the fault lies in what was given: `Fault::TextTooLong.place()` is `Some(65535)`.
     pub fn place(self) -> Option<usize>
         ensures { result ≡ place self }
     {
-        match self {
-            Fault::ExpressionTooLong => Some(1_024),
-            Fault::NoPlainWord => Some(0),
-            Fault::TextTooLong => Some(65_535),
-            Fault::LabelTooShort { length } => Some(length),
-            Fault::UnknownEdition => Some(0),
-            Fault::TooManyEntries | Fault::TooFewFields => Some(1),
-            Fault::NotInGrammar { place }
-            | Fault::TooDeep { place }
-            | Fault::ReversedRange { place }
-            | Fault::EmptySet { place }
-            | Fault::TooManyPositions { place }
-            | Fault::Finished { place }
-            | Fault::NoRoom { place, .. }
-            | Fault::BeyondText { place }
-            | Fault::UnknownIdentifier { place }
-            | Fault::PartOutside { place } => Some(place),
-            Fault::Memory => None,
-        }
+        Some(self.refusal()?.place)
     }
 }
 
@@ -156,10 +147,14 @@ impl<T: Drop> From<AllocFailed<T>> for Fault {
 
 /// `refused 8 at 65535`, or `out of memory`.
 impl fmt::Display for Fault {
+    ghost output = { λ f. Some (fault_text f) };
+
     fn fmt<W: fmt::Write>(&self, f: &mut fmt::Formatter<W>) -> fmt::Result {
-        match (self.number(), self.place()) {
-            (Some(number), Some(place)) => write!(f, "refused {number} at {place}"),
-            _ => write!(f, "out of memory"),
+        match self.refusal() {
+            Some(Refusal { number, place, .. }) => write!(f, "refused {number} at {place}"),
+            None => f.write_str("out of memory"),
         }
     }
 }
+
+impl Error for Fault {}
