@@ -2,10 +2,9 @@
 
 #![tactic(auto)]
 
-mod choice;
 mod contract;
+mod sides;
 mod symbols;
 
-pub use choice::{Choice, Chosen};
 pub use contract::Engine;
 pub use symbols::Symbol;
