@@ -55,3 +55,13 @@ behind_shorter (b ∷ bs) some = let ih = no_longer bs in cond_both (eqb b 10) b
     no_longer : (xs : List ℕ) → length (behind xs) ≤ length xs
     no_longer [] = omega arith
     no_longer (x ∷ xs) = let ih = no_longer xs in cond_both (eqb x 10) xs (behind xs) (λ l. length l ≤ suc (length xs)) (λ _. omega arith) (λ _. omega arith)
+
+-- between two parts it stands
+pub stands_between : (b : ℕ) (f r bytes : List ℕ) → bytes ≡ f ++ (b ∷ r) → Lacks b bytes → ⊥
+stands_between b [] r [] is l = let e : 0 ≡ suc (length r) = ap length is in omega arith
+stands_between b [] r (y ∷ bytes) is l = l 0 (omega arith) cc
+stands_between b (x ∷ f) r [] is l = let e : 0 ≡ suc (length (f ++ (b ∷ r))) = ap length is in omega arith
+stands_between b (x ∷ f) r (y ∷ bytes) is l =
+    let rests : bytes ≡ f ++ (b ∷ r) = cc in
+    let lacks : Lacks b bytes = λ i less. l (suc i) (omega arith) in
+    stands_between b f r bytes rests lacks

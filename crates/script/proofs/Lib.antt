@@ -1,3 +1,2 @@
-pub mod Digits
-pub mod Feeds
 pub mod Taking
+pub mod Names

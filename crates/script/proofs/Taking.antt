@@ -1,8 +1,11 @@
 -- Calls that are taken from a script one by one. Assumes nothing.
-use Rattle.std.proofs.Common.{◌≡◌, ℕ, suc, ◌+◌, List, [], ◌∷◌, ◌++◌, length, sym, ap, ◌∙◌, subst, append_assoc, append-nil, arith, length-append}
+use Rattle.std.proofs.Common.{◌≡◌, ℕ, suc, ◌+◌, true, false, eqb, List, [], ◌∷◌, ◌++◌, length, sym, ap, ◌∙◌, subst, append_assoc, append-nil, arith, length-append}
+use Rattle.std.proofs.lemmas.List.{nil_from_length}
+use Rattle.std.proofs.lemmas.Bool.{false≢true, eqb-true}
 use Rattle.search.specs.declared.numbers.Call.{Call}
-use Rattle.script.specs.Lines.{Writes}
-use Rattle.script.specs.Scripts.{line, behind, WritesCalls, NoCallAt}
+use Rattle.script.specs.Calls.{Writes}
+use Rattle.lines.specs.Lines.{line, behind}
+use Rattle.script.specs.Scripts.{WritesCalls, NoCallAt}
 
 -- the calls that are done stand before the rest, which leads on to the whole
 pub record Leads (bytes : List ℕ) (done : List Call) (rest : List ℕ) : Type 0 where
@@ -31,3 +34,10 @@ module _ (bytes : List ℕ) (done : List Call) (rest : List ℕ) (lead : Leads b
 
   pub leads_wrong : (line rest ≡ [] → ⊥) → ((c : Call) → Writes (line rest) c → ⊥) → NoCallAt bytes (length done)
   leads_wrong some none = let same : length done + 0 ≡ length done = omega arith in subst (NoCallAt bytes) same (lead.wrong 0 (some, none))
+
+-- by the test whether a line is empty
+pub not_empty : (bytes first : List ℕ) → first ≡ line bytes → false ≡ eqb (length first) 0 → line bytes ≡ [] → ⊥
+not_empty bytes first is some e = false≢true (some ∙ ap (λ l. eqb (length l) 0) (is ∙ e))
+
+pub empty : (first : List ℕ) → true ≡ eqb (length first) 0 → first ≡ []
+empty first none = nil_from_length first (eqb-true (length first) 0 (sym none))

@@ -1,2 +1,4 @@
-pub mod Lines
+pub mod Calls
 pub mod Scripts
+pub mod Engines
+pub mod Messages

@@ -1,16 +1,8 @@
 -- A script: an expression, a table's size and calls, a line for each, then an empty line and the text. Assumes nothing.
-use Rattle.std.specs.Prelude.{◌≡◌, ℕ, zero, suc, cond, List, [], ◌∷◌, ◌==◌, ◌≢◌}
+use Rattle.std.specs.Prelude.{◌≡◌, ℕ, zero, suc, List, [], ◌∷◌, ◌≢◌}
 use Rattle.search.specs.declared.numbers.Call.{Call}
-use Rattle.script.specs.Lines.{Writes, WritesTable}
-
--- the bytes before the first line feed, and those behind it
-abbrev pub line : List ℕ → List ℕ
-line [] = []
-line (b ∷ bs) = cond (b == 10) [] (b ∷ line bs)
-
-abbrev pub behind : List ℕ → List ℕ
-behind [] = []
-behind (b ∷ bs) = cond (b == 10) bs (behind bs)
+use Rattle.lines.specs.Lines.{line, behind}
+use Rattle.script.specs.Calls.{Writes, WritesTable}
 
 -- calls, a line for each, up to an empty line and the text, or to the end of input
 abbrev pub WritesCalls : List ℕ → List Call → List ℕ → Type 0

@@ -2,8 +2,10 @@
 
 #![tactic(auto)]
 
-mod lines;
+mod calls;
+mod engines;
 mod scripts;
 
-pub use lines::{read_call, read_table};
+pub use calls::{read_call, read_table};
+pub use engines::{EngineName, UnknownEngine};
 pub use scripts::{Misread, Script, read_script};

@@ -1,10 +1,13 @@
-ghost use Rattle.std.specs.Prelude.{◌≡◌, ℕ, ◌+◌, ◌≤◌, ◌⊎◌, length, MatchResult};
+ghost use Rattle.std.specs.Prelude.{◌≡◌, ℕ, ◌+◌, ◌⊎◌, MatchResult};
 ghost use Rattle.script.specs.declared.scripts.Misread.{Misread};
-ghost use Rattle.script.specs.Scripts.{line, behind, WritesCalls, NoCallAt, WritesScript, WrongLine};
+ghost use Rattle.script.specs.Scripts.{WritesCalls, NoCallAt, WritesScript, WrongLine};
 
-use crate::lines::{read_call, read_table};
+use crate::calls::{read_call, read_table};
+use lines::parted;
 use search::Call;
 use std::alloc::{AllocError, AllocFailed, Global};
+use std::error::Error;
+use std::fmt;
 
 /// A script taken apart: the expression's line, the table's size, the calls, and the text.
 #[derive(Drop)]
@@ -16,7 +19,7 @@ pub struct Script<'a> {
 }
 
 /// Why a script is not taken: a line that is no call or no table, by its number from 1, or want of memory.
-#[derive(Clone, Copy)]
+#[derive(Clone, Copy, Debug, PartialEq, Eq)]
 pub enum Misread {
     Line { number: usize },
     Memory,
@@ -38,36 +41,22 @@ impl<T: Drop> From<AllocFailed<T>> for Misread {
     }
 }
 
-// How long the first line is.
-fn line_length(bytes: &[u8]) -> usize
-    ensures value { result ≡ length (line bytes.now) }
-    ensures within { result ≤ length bytes.now }
-{
-    for i in 0..bytes.len() {
-        if bytes[i] == b'\n' {
-            return i;
+/// `bad line 3`, or `out of memory`.
+impl fmt::Display for Misread {
+    ghost use Rattle.std.specs.Prelude.{Some};
+    ghost use Rattle.script.specs.Messages.{misread_text};
+
+    ghost output = { λ m. Some (misread_text m) };
+
+    fn fmt<W: fmt::Write>(&self, f: &mut fmt::Formatter<W>) -> fmt::Result {
+        match self {
+            Misread::Line { number } => write!(f, "bad line {number}"),
+            Misread::Memory => f.write_str("out of memory"),
         }
     }
-    bytes.len()
 }
 
-fn first_line(bytes: &[u8]) -> &[u8]
-    ensures { result.now ≡ line bytes.now }
-{
-    let end = line_length(bytes);
-    &bytes[0..end]
-}
-
-fn rest_of(bytes: &[u8]) -> &[u8]
-    ensures { result.now ≡ behind bytes.now }
-{
-    let end = line_length(bytes);
-    if end < bytes.len() {
-        &bytes[end + 1..]
-    } else {
-        &bytes[end..]
-    }
-}
+impl Error for Misread {}
 
 // The calls, a line for each, and the text behind the empty line.
 fn read_calls(heap: Global, bytes: &[u8]) -> Result<(Vec<Call>, &[u8]), Misread>
@@ -76,21 +65,18 @@ fn read_calls(heap: Global, bytes: &[u8]) -> Result<(Vec<Call>, &[u8]), Misread>
     let mut calls = Vec::new(heap);
     let mut rest = bytes;
     loop {
-        let line = first_line(rest);
-        if line.len() == 0 {
-            break;
+        let (line, behind) = parted(rest);
+        if line.is_empty() {
+            return Ok((calls, behind));
         }
-        match read_call(line) {
-            Some(call) => calls.push(call)?,
-            None => {
-                return Err(Misread::Line {
-                    number: calls.len() + 3,
-                });
-            }
-        }
-        rest = rest_of(rest);
+        let Some(call) = read_call(line) else {
+            return Err(Misread::Line {
+                number: calls.len() + 3,
+            });
+        };
+        calls.push(call)?;
+        rest = behind;
     }
-    Ok((calls, rest_of(rest)))
 }
 
 /// Takes a script apart: its first line is an expression, the second gives the table's size, then a call stands on each line, and behind an empty line the text.
@@ -98,13 +84,14 @@ fn read_calls(heap: Global, bytes: &[u8]) -> Result<(Vec<Call>, &[u8]), Misread>
 pub fn read_script(heap: Global, bytes: &[u8]) -> Result<Script<'_>, Misread>
     ensures { MatchResult result (λ s. WritesScript bytes.now s.expression.now s.size s.calls.items s.text.now) (λ m. (m ≡ Misread.Memory) ⊎ ((n : ℕ) × (m ≡ Misread.Line n) × WrongLine bytes.now n)) }
 {
-    let rest = rest_of(bytes);
-    let Some(size) = read_table(first_line(rest)) else {
+    let (expression, rest) = parted(bytes);
+    let (table, rest) = parted(rest);
+    let Some(size) = read_table(table) else {
         return Err(Misread::Line { number: 2 });
     };
-    let (calls, text) = read_calls(heap, rest_of(rest))?;
+    let (calls, text) = read_calls(heap, rest)?;
     Ok(Script {
-        expression: first_line(bytes),
+        expression,
         size,
         calls,
         text,

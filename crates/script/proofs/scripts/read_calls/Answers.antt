@@ -1,9 +1,8 @@
 use Rattle.std.proofs.Common.{◌≡◌, ◌+◌, length, vec_items, sym, ap, ◌∙◌, subst, inr, arith}
-use Rattle.std.proofs.lemmas.List.{nil_from_length}
-use Rattle.script.specs.Lines.{Writes}
+use Rattle.script.specs.Calls.{Writes}
 use Rattle.script.specs.declared.scripts.Misread.{Misread}
-use Rattle.script.proofs.Feeds.{behind_shorter}
-use Rattle.script.proofs.Taking.{leads_all, leads_more, leads_end, leads_wrong}
+use Rattle.lines.proofs.Feeds.{behind_shorter}
+use Rattle.script.proofs.Taking.{leads_all, leads_more, leads_end, leads_wrong, not_empty, empty}
 use Rattle.script.proofs.scripts.read_calls.Goals as goal
 
 pub loop-line-init : goal.loop-line-init
@@ -11,26 +10,26 @@ loop-line-init c = leads_all c.args.bytes.now (vec_items c.new-calls.result) c.n
 
 pub loop-line-preserved : goal.loop-line-preserved
 loop-line-preserved c =
-    let is = c.first_line-line.ensures in
-    leads_more c.args.bytes.now (vec_items c.loop-line.calls) c.loop-line.rest.now c.loop-line.invariant c.in-Some.call (λ e. c.if-line-eq0.false (ap length (is ∙ e)))
-    (subst (λ l. Writes l c.in-Some.call) is c.in-Some.ensures) _ _ c.in_ok-push-in-Some.ensures.items c.rest_of-rest.ensures
+    let is = c.parted.ensures.line in
+    leads_more c.args.bytes.now (vec_items c.loop-line.calls) c.loop-line.rest.now c.loop-line.invariant c.in-Some.call (not_empty c.loop-line.rest.now c.parted.result.0.now is c.if-is_empty.ensures)
+    (subst (λ l. Writes l c.in-Some.call) is c.in-Some.ensures) _ _ c.in_ok-push.ensures.items c.parted.ensures.rest
 
 pub loop-line-smaller : goal.loop-line-smaller
 loop-line-smaller c =
-    let shorter = behind_shorter c.loop-line.rest.now (λ e. c.if-line-eq0.false (ap length (c.first_line-line.ensures ∙ e))) in
-    omega (arith, ap length c.rest_of-rest.ensures)
+    let shorter = behind_shorter c.loop-line.rest.now (not_empty c.loop-line.rest.now c.parted.result.0.now c.parted.ensures.line c.if-is_empty.ensures) in
+    omega (arith, ap length c.parted.ensures.rest)
 
-pub returns : goal.returns
-returns c =
-    leads_end c.args.bytes.now (vec_items c.loop-line.calls) c.loop-line.rest.now c.loop-line.invariant c.rest_of.result.now
-    (sym c.first_line-line.ensures ∙ nil_from_length c.first_line-line.result.now c.if-line-eq0.true) c.rest_of.ensures
+pub returns-then-is_empty : goal.returns-then-is_empty
+returns-then-is_empty c =
+    leads_end c.args.bytes.now (vec_items c.loop-line.calls) c.loop-line.rest.now c.loop-line.invariant c.parted.result.1.now
+    (sym c.parted.ensures.line ∙ empty c.parted.result.0.now c.if-is_empty.ensures) c.parted.ensures.rest
 
-pub returns-in-None : goal.returns-in-None
-returns-in-None c =
-    let is = c.first_line-line.ensures in
+pub returns-in_default : goal.returns-in_default
+returns-in_default c =
+    let is = c.parted.ensures.line in
     let same : c.len.result ≡ length (vec_items c.loop-line.calls) = omega (arith, c.len.ensures, c.loop-line.calls.ok) in
     inr (
       length (vec_items c.loop-line.calls),
       ap (λ n. Misread.Line (n + 3)) same,
-      leads_wrong c.args.bytes.now (vec_items c.loop-line.calls) c.loop-line.rest.now c.loop-line.invariant (λ e. c.if-line-eq0.false (ap length (is ∙ e))) (λ x w. c.in-None.ensures x (subst (λ l. Writes l x) (sym is) w)),
+      leads_wrong c.args.bytes.now (vec_items c.loop-line.calls) c.loop-line.rest.now c.loop-line.invariant (not_empty c.loop-line.rest.now c.parted.result.0.now is c.if-is_empty.ensures) (λ x w. c.in_default.ensures x (subst (λ l. Writes l x) (sym is) w)),
     )
