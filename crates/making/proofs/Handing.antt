@@ -1,8 +1,9 @@
 -- What the engines of one expression are made from, and what the list theorem gives for them. Assumes nothing.
-use Rattle.std.proofs.Common.{◌≡◌, ℕ, zero, suc, ◌+◌, ◌<◌, Bool, true, ◌||◌, List, [], ◌∷◌, length, get_or, drop, Ok, Err, vec_items, Result, sym, refl, ap, ◌∙◌, subst, inl, inr, ⊎_elim, map-id}
-use Rattle.std.proofs.lemmas.List.{at_drop_more}
+use Rattle.std.proofs.Common.{◌≡◌, ℕ, zero, suc, Bool, true, List, [], ◌∷◌, length, get_or, Ok, Err, vec_items, Result, MatchResult, sym, refl, ap, ◌∙◌, subst, ◌⊎◌, inl, inr, ⊎_elim, map-id}
 use Rattle.std.proofs.lemmas.Bool.{both_ways}
+use Rattle.std.proofs.lemmas.Result.{MatchResult-weaker}
 use Rattle.refusal.specs.declared.Fault.{Fault}
+use Rattle.refusal.specs.declared.Fault.TheVariants.{Memory}
 use Rattle.regular.specs.Language.{Regex, Tail}
 use Rattle.syntax.specs.Grammar.{meaning}
 use Rattle.syntax.specs.Reading.{Accepted}
@@ -10,9 +11,10 @@ use Rattle.syntax.specs.Tree.{language}
 use Rattle.syntax.specs.declared.mode.Mode.{Mode}
 use Rattle.syntax.specs.declared.tree.Node.{Node}
 use Rattle.syntax.proofs.Unique.{one_tree}
-use Rattle.engine.specs.Sides.{by_side}
-use Rattle.engine.specs.declared.choice.Choice.{Choice}
-use Rattle.engine.specs.declared.choice.Choice.TheVariants.{Left, Right}
+use Rattle.either.specs.Either.{either}
+use Rattle.either.specs.declared.Either.{Either}
+use Rattle.either.specs.declared.Either.TheVariants.{Left, Right}
+use Rattle.expression.specs.declared.expression.Expression.{Expression}
 use Rattle.distance.specs.Distances.{Jump, WholeJump}
 use Rattle.single.specs.declared.single.SingleStep.{SingleStep}
 use Rattle.tabled.specs.declared.tabled.Tabled.{Tabled}
@@ -26,38 +28,53 @@ use Rattle.search.specs.ListTheorem.{ListTheorem}
 use Rattle.search.specs.Performing.{named, Performs}
 use Rattle.search.specs.declared.numbers.Call.{Call}
 use Rattle.search.specs.declared.numbers.Outcome.{Outcome}
-use Rattle.making.specs.Engines.{names_word_engine, asks_word, SingleOf, TabledOf, WordOf, LastOf}
+use Rattle.making.specs.Engines.{asks_word, SingleOf, TabledOf, WordOf, LastOf, Unread, NoWord, BuiltBy, built, unread}
 use Rattle.making.specs.Outcomes.{Makes}
 
--- one more call is looked at
-pub asked_at : (calls : List Call) (i : ℕ) (b : Bool) → i < length calls → b ≡ names_word_engine (get_or calls i (Call.Step 0)) → asks_word (drop i calls) ≡ asks_word calls → (b || asks_word (drop (i + 1) calls)) ≡ asks_word calls
-asked_at calls i b lt is inv = ap (λ x. x || asks_word (drop (i + 1) calls)) is ∙ sym (at_drop_more asks_word calls i (Call.Step 0) lt) ∙ inv
-
 module _ (bytes : List ℕ) (n : Node) (a : Accepted Mode.Bytes bytes n) where
-  pub tabled_made : (e : Tabled) → tabled_exact.JumpsExactly n e → TabledOf bytes e
+  tabled_made : (e : Tabled) → tabled_exact.JumpsExactly n e → TabledOf bytes e
   tabled_made e made = record {
     accepted = subst (Accepted Mode.Bytes bytes) (sym made.same_tree) a;
     exact = subst (λ (m : Node). (v : List ℕ) → Tail (language m) v → Jump (language m) v (greatest_of (language m) (vec_items e.jumps) v)) (sym made.same_tree) made.exact;
   }
 
-  pub word_made : (e : Word) → word_exact.JumpsExactly n e → WordOf bytes e
+  word_made : (e : Word) → word_exact.JumpsExactly n e → WordOf bytes e
   word_made e made = record {
     accepted = subst (Accepted Mode.Bytes bytes) (sym made.same_tree) a;
     exact = λ v tail. jump_is e v tail (subst (λ (m : Node). WordJumps (language m) (vec_items e.letters) (vec_items e.jumps)) (sym made.same_tree) made.exact);
   }
 
   -- the bytes have one meaning
-  pub same_language : (m : Node) → Accepted Mode.Bytes bytes m → language m ≡ language n
+  same_language : (m : Node) → Accepted Mode.Bytes bytes m → language m ≡ language n
   same_language m b = b.means_it ∙ ap meaning (one_tree Mode.Bytes b.tree a.tree (b.is_written.as_bytes ∙ sym a.is_written.as_bytes)) ∙ sym a.means_it
 
+-- what the makers of the three engines give for the bytes
+module _ (bytes : List ℕ) where
+  pub single_built : {makes : Expression → Result SingleStep Fault → Type 0} → ((x : Expression) (r : Result SingleStep Fault) → makes x r → MatchResult r (λ e. e.expression.tree ≡ x.tree) (λ f. f ≡ Memory))
+      → (r : Result SingleStep Fault) → BuiltBy bytes makes r → MatchResult r (SingleOf bytes) (Unread bytes)
+  single_built gives r (built x a m) = MatchResult-weaker r (gives x r m) (λ e same. subst (Accepted Mode.Bytes bytes) (sym same) a) (λ f is. inr is)
+  single_built gives r (unread f is why) = rw is why
+
+  pub tabled_built : {makes : Expression → Result Tabled Fault → Type 0} → ((x : Expression) (r : Result Tabled Fault) → makes x r → MatchResult r (tabled_exact.JumpsExactly x.tree) (λ f. f ≡ Memory))
+      → (r : Result Tabled Fault) → BuiltBy bytes makes r → MatchResult r (TabledOf bytes) (Unread bytes)
+  tabled_built gives r (built x a m) = MatchResult-weaker r (gives x r m) (λ e made. tabled_made bytes x.tree a e made) (λ f is. inr is)
+  tabled_built gives r (unread f is why) = rw is why
+
+  pub word_built : {makes : Expression → Result Word Fault → Type 0} → ((x : Expression) (r : Result Word Fault) → makes x r → word_exact.MadeFor x.tree r)
+      → (r : Result Word Fault) → BuiltBy bytes makes r → MatchResult r (WordOf bytes) (λ f. Unread bytes f ⊎ NoWord bytes f)
+  word_built gives r (built x a m) =
+      MatchResult-weaker r (gives x r m) (λ e made. word_made bytes x.tree a e made)
+      (λ f. ⊎_elim (λ (is, none). inr (record { fault_is = is; tree = x.tree; accepted = a; spells_none = none })) (λ (is, _). inl (inr is)))
+  word_built gives r (unread f is why) = rw is (inl why)
+
 abbrev AnyEngine : Type 0
-AnyEngine = Choice SingleStep (Choice Tabled Word)
+AnyEngine = Either SingleStep (Either Tabled Word)
 
 abbrev language_of : AnyEngine → Regex
-language_of e = by_side (λ s. language s.expression.tree) (λ x. by_side (λ t. language t.single.expression.tree) (λ w. language w.expression.tree) x) e
+language_of e = either (λ s. language s.expression.tree) (λ x. either (λ t. language t.single.expression.tree) (λ w. language w.expression.tree) x) e
 
 abbrev shift_of : AnyEngine → List ℕ → ℕ
-shift_of e v = by_side {C = List ℕ → ℕ} (λ s v. 1) (λ x v. by_side {C = List ℕ → ℕ} (λ t v. greatest_of (language t.single.expression.tree) (vec_items t.jumps) v) (λ w v. get_or (vec_items w.jumps) (length v) 0) x v) e v
+shift_of e v = either {T = List ℕ → ℕ} (λ s v. 1) (λ x v. either {T = List ℕ → ℕ} (λ t v. greatest_of (language t.single.expression.tree) (vec_items t.jumps) v) (λ w v. get_or (vec_items w.jumps) (length v) 0) x v) e v
 
 module _ (bytes : List ℕ) (s : SingleStep) (t : Tabled) (a : SingleOf bytes s) (b : TabledOf bytes t) where
   abbrev meant : Regex

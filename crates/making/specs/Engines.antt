@@ -1,5 +1,6 @@
--- The engines that calls may name: 0 is the single-step one, 1 the tabled one, 2 the word engine. Assumes nothing.
-use Rattle.std.specs.Prelude.{◌≡◌, ℕ, Bool, false, ◌||◌, ◌⊎◌, List, [], ◌∷◌, length, None, vec_items, ◌==◌, slice_index}
+-- The engines that calls may name. Assumes nothing.
+use Rattle.std.specs.Prelude.{◌≡◌, ℕ, Bool, false, ◌⊎◌, List, length, None, Err, Result, vec_items, ◌==◌, slice_index}
+use Rattle.std.specs.List.{list_any}
 use Rattle.refusal.specs.declared.Fault.{Fault}
 use Rattle.refusal.specs.declared.Fault.TheVariants.{NoPlainWord, Memory}
 use Rattle.regular.specs.Language.{Tail}
@@ -7,27 +8,29 @@ use Rattle.syntax.specs.Reading.{Accepted, Refusal}
 use Rattle.syntax.specs.Tree.{language, spelling}
 use Rattle.syntax.specs.declared.mode.Mode.{Mode}
 use Rattle.syntax.specs.declared.tree.Node.{Node}
-use Rattle.engine.specs.declared.choice.Choice.{Choice}
-use Rattle.engine.specs.declared.choice.Choice.TheVariants.{Left, Right}
+use Rattle.either.specs.declared.Either.{Either}
+use Rattle.either.specs.declared.Either.TheVariants.{Left, Right}
+use Rattle.expression.specs.declared.expression.Expression.{Expression}
 use Rattle.distance.specs.Distances.{Jump, WholeJump}
 use Rattle.single.specs.declared.single.SingleStep.{SingleStep}
 use Rattle.tabled.specs.declared.tabled.Tabled.{Tabled}
 use Rattle.tabled.specs.Jumps.{greatest_of}
 use Rattle.word.specs.declared.word.Word.{Word}
+use Rattle.script.specs.declared.engines.EngineName.{EngineName}
+use Rattle.script.specs.Engines.{number_of}
 use Rattle.search.specs.declared.numbers.Call.{Call}
 use Rattle.search.specs.declared.numbers.Call.TheVariants.{Step, Run, Clear, Move}
 
 -- the call names the word engine
 abbrev pub names_word_engine : Call → Bool
-names_word_engine (Step e) = e == 2
-names_word_engine (Run e budget) = e == 2
+names_word_engine (Step e) = e == number_of EngineName.Word
+names_word_engine (Run e budget) = e == number_of EngineName.Word
 names_word_engine Clear = false
 names_word_engine (Move place) = false
 
 -- some call does
 abbrev pub asks_word : List Call → Bool
-asks_word [] = false
-asks_word (c ∷ cs) = names_word_engine c || asks_word cs
+asks_word calls = list_any names_word_engine calls
 
 -- over the bytes that the expression is written as
 module _ (bytes : List ℕ) where
@@ -44,7 +47,7 @@ module _ (bytes : List ℕ) where
     pub exact : (v : List ℕ) → Tail (language e.expression.tree) v → WholeJump (language e.expression.tree) v (slice_index (vec_items e.jumps) (length v))
 
   -- the word engine, or one more single-step engine where the word engine is not asked for
-  abbrev pub LastOf : Bool → Choice SingleStep (Choice Tabled Word) → Type 0
+  abbrev pub LastOf : Bool → Either SingleStep (Either Tabled Word) → Type 0
   LastOf asked (Left e) = (asked ≡ false) × SingleOf e
   LastOf asked (Right (Left e)) = ⊥
   LastOf asked (Right (Right e)) = WordOf e
@@ -59,3 +62,8 @@ module _ (bytes : List ℕ) where
     pub tree : Node
     pub accepted : Accepted Mode.Bytes bytes tree
     pub spells_none : spelling tree ≡ None
+
+  -- what a maker gives for an expression that the bytes are written for, or why they are not read
+  pub data BuiltBy {E : Type 0} (makes : Expression → Result E Fault → Type 0) (r : Result E Fault) : Type 0 where
+    built : (x : Expression) → Accepted Mode.Bytes bytes x.tree → makes x r → BuiltBy makes r
+    unread : (f : Fault) → r ≡ Err f → Unread f → BuiltBy makes r
