@@ -1,5 +1,6 @@
 -- What holds of a search that is set aside, over each call. Assumes nothing.
-use Rattle.std.proofs.Common.{◌≡◌, ℕ, zero, suc, ◌+◌, ◌-◌, ◌<◌, ◌≤◌, true, false, cond, ◌||◌, ltb, List, [], ◌++◌, length, take, drop, sym, refl, ap, ◌∙◌, subst, ⊎_elim, arith, take-append-drop}
+use Rattle.std.proofs.Common.{◌≡◌, ℕ, zero, suc, ◌+◌, ◌-◌, ◌<◌, ◌≤◌, true, false, cond, ◌||◌, ltb, List, [], ◌++◌, length, take, drop, sym, refl, ap, ◌∙◌, subst, subst₂, Ok, Err, Result, MatchResult, ⊎_elim, arith, take-append-drop}
+use Rattle.std.specs.Prelude.{⊤}
 use Rattle.std.proofs.lemmas.Bool.{cases_Bool, cond-true, cond-false, or_from, or_parts, or_cases, both_ways, lt-ltb, le-ltb}
 use Rattle.regular.specs.Language.{Regex, Inhabited}
 use Rattle.regular.specs.Jumps.{Skips}
@@ -11,7 +12,7 @@ use Rattle.search.specs.Rules.{finished, crowded, why}
 use Rattle.search.specs.Calls.{fresh, stepped, held, ran, Added, Stepped, Held, RanBy}
 use Rattle.search.specs.Reckoning.{Reckoned, begun, filled_by, due, granted, granted_all, called}
 use Rattle.search.specs.ListTheorem.{SetAside}
-use Rattle.search.specs.Performing.{plain, CalledBy}
+use Rattle.search.specs.Performing.{plain, named, CalledBy}
 use Rattle.search.specs.declared.numbers.Answer.{Answer}
 use Rattle.search.specs.declared.numbers.Call.{Call}
 use Rattle.search.specs.declared.numbers.Numbers.{Numbers}
@@ -86,7 +87,7 @@ module _ (r : Regex) (t : List ℕ) (shifts : ℕ → List ℕ → ℕ) where
     same_due = ap (λ n. finished t k.next || crowded r t (size - n) k.next) kept.full
 
   plain_ran : (i : Inhabited r) (size e : ℕ) → Skips r (shifts e) → (b : ℕ) (k : Numbers) → Kept r t k → plain (ran r t size (shifts e) b k) ≡ granted_all r t size shifts e b (plain k)
-  plain_ran i size e skips zero k kept = refl
+  plain_ran i size e skips zero k _ = refl
   plain_ran i size e skips (suc b) k kept =
       let same = same_due size k kept in
       let further = plain_ran i size e skips b (stepped r t (shifts e) k) in
@@ -116,7 +117,7 @@ module _ (r : Regex) (t : List ℕ) (shifts : ℕ → List ℕ → ℕ) where
         ∙ (λ j. (take (full j) table ++ listed r t k.next (k'.next - k.next)) ++ drop (full' j) table) in
         at_k' ∙ ap (λ z. (take (filled_by r t (length table) shifts (plain k)) table ++ listed r t k.next (z.next - k.next)) ++ drop (filled_by r t (length table) shifts z) table) is
 
-    pub call_stepped : (e n : ℕ) → Inhabited r → Skips r (shifts e) → Stepped r (shifts e) t k k' table table' n → CalledBy r t shifts (Call.Step e) k k' table table' (Answer.Wrote n)
+    call_stepped : (e n : ℕ) → Inhabited r → Skips r (shifts e) → Stepped r (shifts e) t k k' table table' n → CalledBy r t shifts (Call.Step e) k k' table table' (Answer.Wrote n)
     call_stepped e n i skips by =
         let many = length (ending r t k.next) in
         let room = length table - filled_by r t (length table) shifts (plain k) in
@@ -136,7 +137,7 @@ module _ (r : Regex) (t : List ℕ) (shifts : ℕ → List ℕ → ℕ) where
           leaves = table_by aside' (step_added r t i (shifts e) skips k k' table table' aside n by) (called r t (length table) shifts (Call.Step e) (plain k)) after;
         }
 
-    pub call_held : (e : ℕ) (x : Fault) → Held r (shifts e) t k k' table table' x → CalledBy r t shifts (Call.Step e) k k' table table' (Answer.Refused x)
+    call_held : (e : ℕ) (x : Fault) → Held r (shifts e) t k k' table table' x → CalledBy r t shifts (Call.Step e) k k' table table' (Answer.Refused x)
     call_held e x by =
         let many = length (ending r t k.next) in
         let room = length table - filled_by r t (length table) shifts (plain k) in
@@ -165,7 +166,7 @@ module _ (r : Regex) (t : List ℕ) (shifts : ℕ → List ℕ → ℕ) where
           leaves = table_by aside' added (called r t (length table) shifts (Call.Step e) (plain k)) after;
         }
 
-    pub call_ran : (e b n : ℕ) (stop : Stop) → Inhabited r → Skips r (shifts e) → RanBy r (shifts e) t k k' table table' b n stop → CalledBy r t shifts (Call.Run e b) k k' table table' (Answer.Ran n stop)
+    call_ran : (e b n : ℕ) (stop : Stop) → Inhabited r → Skips r (shifts e) → RanBy r (shifts e) t k k' table table' b n stop → CalledBy r t shifts (Call.Run e b) k k' table table' (Answer.Ran n stop)
     call_ran e b n stop i skips by =
         let z : Reckoned = granted_all r t (length table) shifts e b (plain k) in
         let after : plain k' ≡ z = ap plain by.after ∙ plain_ran i (length table) e skips b k (aside_kept r t k (take k.filled table) aside) in
@@ -187,22 +188,43 @@ module _ (r : Regex) (t : List ℕ) (shifts : ℕ → List ℕ → ℕ) where
       leaves = kept;
     }
 
-    pub call_moved : (p : ℕ) → p ≤ length t → k' ≡ fresh p → table' ≡ table → CalledBy r t shifts (Call.Move p) k k' table table' Answer.Moved
-    call_moved p le after kept =
-        let inside = le-ltb (length t) p le in
+    pub call_moved : (p n : ℕ) → length t ≡ n → table' ≡ table → (z : Result ⊤ Fault) (a : Answer) → MatchResult z (λ _. (p ≤ n) × (k' ≡ fresh p)) (λ f. (n < p) × (f ≡ BeyondText p) × (k' ≡ k)) → MatchResult z (λ _. a ≡ Answer.Moved) (λ f. a ≡ Answer.Refused f) → CalledBy r t shifts (Call.Move p) k k' table table' a
+    call_moved p n long kept (Ok u) a (le, after) is =
+        let inside = le-ltb (length t) p (omega arith) in
         record {
-          says = sym (cond-false (ltb (length t) p) (Answer.Refused (BeyondText p)) Answer.Moved inside);
+          says = is ∙ sym (cond-false (ltb (length t) p) (Answer.Refused (BeyondText p)) Answer.Moved inside);
           after = ap plain after ∙ sym (cond-false (ltb (length t) p) (plain k) (begun p) inside);
           aside = subst (λ z. Aside r t z table') (sym after) (fresh_aside r t p (omega arith));
           leaves = kept;
         }
-
-    pub call_beyond : (p : ℕ) (x : Fault) → length t < p → x ≡ BeyondText p → k' ≡ k → table' ≡ table → CalledBy r t shifts (Call.Move p) k k' table table' (Answer.Refused x)
-    call_beyond p x lt is same kept =
-        let past = lt-ltb (length t) p lt in
+    call_moved p n long kept (Err f) a (lt, fault, same) is =
+        let past = lt-ltb (length t) p (omega arith) in
         record {
-          says = ap Answer.Refused is ∙ sym (cond-true (ltb (length t) p) (Answer.Refused (BeyondText p)) Answer.Moved past);
+          says = is ∙ ap Answer.Refused fault ∙ sym (cond-true (ltb (length t) p) (Answer.Refused (BeyondText p)) Answer.Moved past);
           after = ap plain same ∙ sym (cond-true (ltb (length t) p) (plain k) (begun p) past);
           aside = subst (λ z. Aside r t z table') (sym same) (subst (Aside r t k) (sym kept) aside);
           leaves = kept;
         }
+
+-- a step or a run, with the engine that its number names
+module _ (r : Regex) (t : List ℕ) {E : Type 0} (expression : E → Regex) (shift : E → List ℕ → ℕ) (inhabited : (x : E) → Inhabited (expression x)) (skips : (x : E) → Skips (expression x) (shift x))
+    (engines : List E) (spare : E) (all : (i : ℕ) → expression (named engines spare i) ≡ r) (k k' : Numbers) (table table' : List (ℕ × ℕ)) (aside : Aside r t k table) (e : ℕ) (x : E) (picked : x ≡ named engines spare e)
+  where
+    abbrev pub shifts : ℕ → List ℕ → ℕ
+    shifts i = shift (named engines spare i)
+
+    same : expression x ≡ r
+    same = ap expression picked ∙ all e
+
+    far : shift x ≡ shifts e
+    far = ap shift picked
+
+    pub call_step : (z : Result ℕ Fault) (a : Answer) → MatchResult z (Stepped (expression x) (shift x) t k k' table table') (Held (expression x) (shift x) t k k' table table') → MatchResult z (λ n. a ≡ Answer.Wrote n) (λ f. a ≡ Answer.Refused f) → CalledBy r t shifts (Call.Step e) k k' table table' a
+    call_step (Ok n) a by is =
+        subst (CalledBy r t shifts (Call.Step e) k k' table table') (sym is)
+        (call_stepped r t shifts k k' table table' aside e n (subst Inhabited same (inhabited x)) (subst₂ Skips same far (skips x)) (subst₂ (λ q h. Stepped q h t k k' table table' n) same far by))
+    call_step (Err f) a by is =
+        subst (CalledBy r t shifts (Call.Step e) k k' table table') (sym is) (call_held r t shifts k k' table table' aside e f (subst₂ (λ q h. Held q h t k k' table table' f) same far by))
+
+    pub call_run : (b n : ℕ) (stop : Stop) → RanBy (expression x) (shift x) t k k' table table' b n stop → CalledBy r t shifts (Call.Run e b) k k' table table' (Answer.Ran n stop)
+    call_run b n stop by = call_ran r t shifts k k' table table' aside e b n stop (subst Inhabited same (inhabited x)) (subst₂ Skips same far (skips x)) (subst₂ (λ q h. RanBy q h t k k' table table' b n stop) same far by)

@@ -1,6 +1,5 @@
 -- What a walk to the left keeps from place to place. Assumes nothing.
-use Rattle.std.proofs.Common.{◌≡◌, ℕ, ◌+◌, ◌-◌, ◌<◌, ◌≤◌, Bool, true, false, cond, List, [], ◌∷◌, map, length, get_or, sym, refl, ap, ◌∙◌, subst, arith}
-use Rattle.std.proofs.lemmas.List.{get_or-map}
+use Rattle.std.proofs.Common.{◌≡◌, ℕ, ◌+◌, ◌-◌, ◌<◌, ◌≤◌, Bool, true, false, cond, List, [], ◌∷◌, length, get_or, sym, refl, ap, ◌∙◌, subst, arith}
 use Rattle.std.proofs.lemmas.Bool.{cond-true, cond-false}
 use Rattle.regular.specs.Language.{Regex, Tail, Inhabited}
 use Rattle.regular.specs.Positions.{accepted, tailed}
@@ -8,11 +7,7 @@ use Rattle.regular.specs.Matches.{between, starting, ending, reach, longest}
 use Rattle.regular.proofs.Tails.{tails_tailed, tails_of_tails}
 use Rattle.regular.proofs.Places.{between_self, between_left}
 use Rattle.regular.proofs.Endings.{flag, starting_dead, starting_left, reach_left, tailed_not}
-use Rattle.engine.specs.Answers.{TellsWord}
-
--- the code of a symbol that was read
-pub code_read : {S : Type 0} (code : S → ℕ) (text : List S) (i : ℕ) (x : S) (c : ℕ) → i < length text → x ≡ get_or text i x → c ≡ code x → c ≡ get_or (map code text) i 0
-code_read code text i x c lt is e = e ∙ ap code is ∙ sym (get_or-map code text i x 0 lt)
+use Rattle.engine.specs.Answers.{AtTails, TellsWord}
 
 module _ (r : Regex) (t : List ℕ) (p : ℕ) {Z : Type 0} (after : List ℕ → Z) where
   -- what stands from at to p is a tail, and the state is the one after it
@@ -29,22 +24,29 @@ module _ (r : Regex) (t : List ℕ) (p : ℕ) {Z : Type 0} (after : List ℕ →
     pub tells : (b : Bool) → TellsWord r after state b → b ≡ accepted r (between t at p)
     tells b told = let (only, if_word) = told (between t at p) on.tail on.is in flag r (between t at p) b if_word only
 
-    module _ (c : ℕ) (pos : 0 < at) (inside : p ≤ length t) (read : c ≡ get_or t (at - 1) 0) where
-      longer : c ∷ between t at p ≡ between t (at - 1) p
-      longer = let below = on.below in ap (λ x. x ∷ between t at p) read ∙ sym (between_left t at p pos below inside)
+    -- what `advance` answers at the code of the symbol before: the state of the longer tail, or none
+    module _ (pos : 0 < at) (inside : p ≤ length t) where
+      abbrev pub before : ℕ
+      before = get_or t (at - 1) 0
 
-      pub on_more : (s : Z) → Tail r (c ∷ between t at p) × (s ≡ after (c ∷ between t at p)) → On (at - 1) s
-      on_more s live = let below = on.below in record { below = omega arith; tail = subst (Tail r) longer live.0; is = live.1 ∙ ap after longer }
+      longer : before ∷ between t at p ≡ between t (at - 1) p
+      longer = sym (between_left t at p pos on.below inside)
 
-      pub not_tail : (Tail r (c ∷ between t at p) → ⊥) → Tail r (between t (at - 1) p) → ⊥
-      not_tail dead h = dead (subst (Tail r) (sym longer) h)
+      pub on_more : (s : Z) → AtTails r after state (λ v. Tail r (before ∷ v) × (s ≡ after (before ∷ v))) → On (at - 1) s
+      on_more s more =
+          let below = on.below in
+          let live = more (between t at p) on.tail on.is in
+          record { below = omega arith; tail = subst (Tail r) longer live.0; is = live.1 ∙ ap after longer }
 
-      pub none_left : (Tail r (c ∷ between t at p) → ⊥) → starting r t p at ≡ []
+      pub not_tail : AtTails r after state (λ v. Tail r (before ∷ v) → ⊥) → Tail r (between t (at - 1) p) → ⊥
+      not_tail dead h = dead (between t at p) on.tail on.is (subst (Tail r) (sym longer) h)
+
+      pub none_left : AtTails r after state (λ v. Tail r (before ∷ v) → ⊥) → starting r t p at ≡ []
       none_left dead = starting_dead r t p at pos on.below (not_tail dead)
 
 -- 1 or 0 is counted at the state of a tail
 abbrev pub Tallies : Regex → {Z : Type 0} → (List ℕ → Z) → Z → ℕ → Type 0
-Tallies r after state n = (v : List ℕ) → Tail r v → state ≡ after v → n ≡ cond (accepted r v) 1 0
+Tallies r after state n = AtTails r after state (λ v. n ≡ cond (accepted r v) 1 0)
 
 counted_one : (b : Bool) (x : ℕ × ℕ) (ys : List (ℕ × ℕ)) → cond b 1 0 + length ys ≡ length (cond b (x ∷ ys) ys)
 counted_one true x ys = omega arith
@@ -95,10 +97,10 @@ module _ (r : Regex) (i : Inhabited r) (t : List ℕ) (p : ℕ) {Z : Type 0} (af
           is = on.is ∙ ap (λ m. after (between t m p)) deep;
         }
 
-    pub ended_dead : (c : ℕ) → 0 < at → p ≤ length t → c ≡ get_or t (at - 1) 0 → (Tail r (c ∷ between t at p) → ⊥) → Ended r t p after at state count
-    ended_dead c pos inside read dead =
-        ended (none_left r t p after at state on c pos inside read dead)
-        (reach_left r t p at pos ∙ cond-false (tailed r (between t (at - 1) p)) (reach r t p (at - 1)) at (tailed_not r (between t (at - 1) p) i (not_tail r t p after at state on c pos inside read dead)))
+    pub ended_dead : 0 < at → p ≤ length t → AtTails r after state (λ v. Tail r (get_or t (at - 1) 0 ∷ v) → ⊥) → Ended r t p after at state count
+    ended_dead pos inside dead =
+        let shorter = not_tail r t p after at state on pos inside dead in
+        ended (none_left r t p after at state on pos inside dead) (reach_left r t p at pos ∙ cond-false (tailed r (between t (at - 1) p)) (reach r t p (at - 1)) at (tailed_not r (between t (at - 1) p) i shorter))
 
     pub ended_start : at ≡ 0 → Ended r t p after at state count
     ended_start zero_at = ended (ap (starting r t p) zero_at) (ap (reach r t p) zero_at ∙ sym zero_at)

@@ -1,14 +1,15 @@
 -- How the numbers of a search move, by the law of its engine. Assumes nothing.
-use Rattle.std.proofs.Common.{◌≡◌, ℕ, zero, suc, ◌+◌, ◌-◌, ◌*◌, ◌<◌, ◌≤◌, min, max, false, List, length, sym, refl, ap, ◌∙◌, add-mul, arith, length-append}
-use Rattle.std.proofs.lemmas.Bool.{cond_both, ltb-false, or_parts}
+use Rattle.std.proofs.Common.{◌≡◌, ℕ, zero, suc, ◌+◌, ◌-◌, ◌*◌, ◌<◌, ◌≤◌, min, max, true, false, List, length, sym, refl, ap, ◌∙◌, add-mul, arith, length-append}
+use Rattle.std.proofs.lemmas.Bool.{cond_both, cond-true, cond-false, ltb-false, or_left, or_right, or_parts}
 use Rattle.regular.specs.Language.{Regex, Inhabited, Shortest}
 use Rattle.regular.specs.Jumps.{Skips}
 use Rattle.regular.specs.Matches.{ending, listed, longest}
 use Rattle.regular.proofs.Endings.{listed_on, listed_one}
 use Rattle.regular.proofs.Longest.{longest_tail}
 use Rattle.regular.proofs.Jumps.{jumps_bounded, nothing_between}
+use Rattle.refusal.specs.declared.Fault.TheVariants.{Finished, NoRoom}
 use Rattle.search.specs.Rules.{finished, crowded, onward, reading}
-use Rattle.search.specs.Calls.{fresh, stepped, held, ran}
+use Rattle.search.specs.Calls.{fresh, stepped, held, ran, Held}
 use Rattle.search.specs.declared.numbers.Numbers.{Numbers}
 
 -- the numbers that a step sets are those that the rules give
@@ -16,6 +17,24 @@ pub stepped_is : (r : Regex) (t : List ℕ) (h : List ℕ → ℕ) (k : Numbers)
 stepped_is r t h k next jump count reads n long is far counted read =
     let on : next ≡ onward r t h k.next = omega arith in
     λ i. record { from = k.from; next = on i; filled = k.filled + counted i; walks = k.walks + 1; reads = k.reads + read i }
+
+-- a step is refused where all places are looked at, or else where the room is too small
+module _ (r : Regex) (h : List ℕ → ℕ) (t : List ℕ) (k : Numbers) (table : List (ℕ × ℕ)) where
+  pub held_finished : finished t k.next ≡ true → Held r h t k k table table (Finished k.next)
+  held_finished f = record {
+    due = or_left (finished t k.next) (crowded r t (length table - k.filled) k.next) f;
+    fault_is = sym (cond-true (finished t k.next) (Finished k.next) (NoRoom k.next (length (ending r t k.next))) f);
+    same = refl;
+    kept = refl;
+  }
+
+  pub held_crowded : (count : ℕ) → finished t k.next ≡ false → count ≡ length (ending r t k.next) → crowded r t (length table - k.filled) k.next ≡ true → Held r h t k k table table (NoRoom k.next count)
+  held_crowded count f is full = record {
+    due = or_right (finished t k.next) (crowded r t (length table - k.filled) k.next) full;
+    fault_is = ap (NoRoom k.next) is ∙ sym (cond-false (finished t k.next) (Finished k.next) (NoRoom k.next (length (ending r t k.next))) f);
+    same = refl;
+    kept = refl;
+  }
 
 -- what the numbers of a search keep
 pub record Kept (r : Regex) (t : List ℕ) (k : Numbers) : Type 0 where

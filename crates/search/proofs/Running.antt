@@ -1,12 +1,13 @@
 -- What a run keeps from step to step. Assumes nothing.
-use Rattle.std.proofs.Common.{◌≡◌, ℕ, zero, suc, ◌+◌, ◌-◌, ◌<◌, ◌≤◌, true, false, cond, eqb, List, ◌++◌, length, take, sym, refl, ap, ◌∙◌, subst, append_assoc, append-nil, arith}
-use Rattle.std.proofs.lemmas.Bool.{or_from, cond-true, cond-false, eq-eqb, ne_eqb}
+use Rattle.std.proofs.Common.{◌≡◌, ℕ, zero, suc, ◌+◌, ◌-◌, ◌<◌, ◌≤◌, true, false, cond, eqb, List, ◌++◌, length, take, sym, refl, ap, ◌∙◌, subst, subst₂, append_assoc, append-nil, arith}
+use Rattle.std.proofs.lemmas.Bool.{or_from, or_left, cond-true, cond-false, eq-eqb, ne_eqb}
 use Rattle.regular.specs.Language.{Regex, Inhabited}
 use Rattle.regular.specs.Jumps.{Skips}
 use Rattle.regular.specs.Matches.{ending, listed}
 use Rattle.regular.proofs.Endings.{listed_on}
+use Rattle.refusal.specs.declared.Fault.{Fault}
 use Rattle.search.specs.Rules.{finished, crowded, why}
-use Rattle.search.specs.Calls.{stepped, held, ran, Added, Stepped, RanBy}
+use Rattle.search.specs.Calls.{stepped, held, ran, Added, Stepped, Held, RanBy}
 use Rattle.search.specs.declared.numbers.Numbers.{Numbers}
 use Rattle.search.specs.declared.numbers.Stop.{Stop}
 use Rattle.search.proofs.Moving.{forward, listed_step}
@@ -47,7 +48,7 @@ module _ (r : Regex) (h : List ℕ → ℕ) (t : List ℕ) (start : Numbers) (ol
       ap (λ n. ran r t (length old) h n (stepped r t h k)) e
       ∙ sym (cond-false (held r t (length old) k) k (ran r t (length old) h b (stepped r t h k)) (or_from (finished t k.next) (crowded r t (length old - k.filled) k.next) f c))
 
-  pub ran_stop : (b : ℕ) (k : Numbers) → held r t (length old) k ≡ true → ran r t (length old) h b k ≡ k
+  ran_stop : (b : ℕ) (k : Numbers) → held r t (length old) k ≡ true → ran r t (length old) h b k ≡ k
   ran_stop zero k f = refl
   ran_stop (suc b) k f = cond-true (held r t (length old) k) k (ran r t (length old) h b (stepped r t h k)) f
 
@@ -82,15 +83,25 @@ module _ (r : Regex) (h : List ℕ → ℕ) (t : List ℕ) (start : Numbers) (ol
         let fitting : crowded r t (length old - k.filled) k.next ≡ false = subst (λ n. crowded r t (n - k.filled) k.next ≡ false) long by.fitting in
         subst (λ x. Runs r h t start old budget (done + 1) x table') (sym by.after) (on_by table' by.going fitting (subst (λ x. Added k x (ending r t k.next) table table') by.after by.added))
 
-  pub ran_by : (k : Numbers) (table : List (ℕ × ℕ)) (done : ℕ) (stop : Stop) → Runs r h t start old budget done k table → ran r t (length old) h (budget - done) k ≡ k → stop ≡ why t budget k.next done → RanBy r h t start k old table budget done stop
-  ran_by k table done stop runs over is = let walked = runs.walked in record { after = sym over ∙ runs.left; steps = omega arith; stop_is = is; added = runs.added }
+  -- the run ends where every place is looked at, the budget is done, or a step is refused for want of room
+  module _ (done : ℕ) (k : Numbers) (table : List (ℕ × ℕ)) (runs : Runs r h t start old budget done k table) where
+    ran_by : (stop : Stop) → ran r t (length old) h (budget - done) k ≡ k → stop ≡ why t budget k.next done → RanBy r h t start k old table budget done stop
+    ran_by stop over is = let walked = runs.walked in record { after = sym over ∙ runs.left; steps = omega arith; stop_is = is; added = runs.added }
 
-module _ (t : List ℕ) (budget next done : ℕ) where
-  pub stop_finished : finished t next ≡ true → Stop.Finished ≡ why t budget next done
-  stop_finished f = sym (cond-true (finished t next) Stop.Finished (cond (eqb done budget) Stop.Budget Stop.Room) f)
+    pub ends_finished : finished t k.next ≡ true → RanBy r h t start k old table budget done Stop.Finished
+    ends_finished f =
+        ran_by Stop.Finished (ran_stop (budget - done) k (or_left (finished t k.next) (crowded r t (length old - k.filled) k.next) f))
+        (sym (cond-true (finished t k.next) Stop.Finished (cond (eqb done budget) Stop.Budget Stop.Room) f))
 
-  pub stop_budget : finished t next ≡ false → done ≡ budget → Stop.Budget ≡ why t budget next done
-  stop_budget f e = sym (cond-true (eqb done budget) Stop.Budget Stop.Room (eq-eqb done budget e)) ∙ sym (cond-false (finished t next) Stop.Finished (cond (eqb done budget) Stop.Budget Stop.Room) f)
+    pub ends_budget : finished t k.next ≡ false → done ≡ budget → RanBy r h t start k old table budget done Stop.Budget
+    ends_budget f e =
+        let over : budget - done ≡ 0 = omega arith in
+        ran_by Stop.Budget (ap (λ n. ran r t (length old) h n k) over)
+        (sym (cond-true (eqb done budget) Stop.Budget Stop.Room (eq-eqb done budget e)) ∙ sym (cond-false (finished t k.next) Stop.Finished (cond (eqb done budget) Stop.Budget Stop.Room) f))
 
-  pub stop_room : finished t next ≡ false → (done ≡ budget → ⊥) → Stop.Room ≡ why t budget next done
-  stop_room f e = sym (cond-false (eqb done budget) Stop.Budget Stop.Room (ne_eqb done budget e)) ∙ sym (cond-false (finished t next) Stop.Finished (cond (eqb done budget) Stop.Budget Stop.Room) f)
+    pub ends_room : finished t k.next ≡ false → (done ≡ budget → ⊥) → length table ≡ length old → (k' : Numbers) (table' : List (ℕ × ℕ)) (fault : Fault) → Held r h t k k' table table' fault → RanBy r h t start k' old table' budget done Stop.Room
+    ends_room f e long k' table' fault by =
+        let as_was =
+        ran_by Stop.Room (ran_stop (budget - done) k (subst (λ n. held r t n k ≡ true) long by.due))
+        (sym (cond-false (eqb done budget) Stop.Budget Stop.Room (ne_eqb done budget e)) ∙ sym (cond-false (finished t k.next) Stop.Finished (cond (eqb done budget) Stop.Budget Stop.Room) f)) in
+        subst₂ (λ x y. RanBy r h t start x old y budget done Stop.Room) (sym by.same) (sym by.kept) as_was

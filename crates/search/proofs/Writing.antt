@@ -1,11 +1,13 @@
 -- What a walk that writes keeps, and what it leaves of the table. Assumes nothing.
-use Rattle.std.proofs.Common.{◌≡◌, ℕ, suc, ◌+◌, ◌-◌, ◌<◌, ◌≤◌, Bool, true, false, ◌⊎◌, List, [], ◌∷◌, ◌++◌, length, take, drop, set, sym, refl, ap, ◌∙◌, subst, inl, inr, append_assoc, append-nil, arith, length-append, length-drop, take-append-drop}
+use Rattle.std.proofs.Common.{◌≡◌, ℕ, suc, ◌+◌, ◌-◌, ◌<◌, ◌≤◌, Bool, true, false, MatchBool, List, [], ◌∷◌, ◌++◌, length, take, drop, set, sym, refl, ap, ◌∙◌, append_assoc, append-nil, arith, length-append, length-drop, take-append-drop}
 use borrow.Rule.Slice.PartMut.{put_mid}
 use Rattle.std.proofs.lemmas.List.{take_more_set, drop-set-lt, drop-drop, drop_all, take_at, drop_at, take_rest, length-take-le}
 use Rattle.std.proofs.lemmas.Bool.{cond-true, cond-false}
 use Rattle.regular.specs.Language.{Regex}
 use Rattle.regular.specs.Positions.{accepted}
 use Rattle.regular.specs.Matches.{between, starting, ending}
+use Rattle.engine.specs.Answers.{TellsWord}
+use Rattle.search.proofs.Leftward.{On, tells}
 
 -- what is equal past a place is equal past each later one
 pub drop_on : {X : Type 0} (a b : ℕ) (xs ys : List X) → a ≤ b → drop a xs ≡ drop a ys → drop b xs ≡ drop b ys
@@ -23,44 +25,44 @@ module _ (r : Regex) (t : List ℕ) (p : ℕ) (old : List (ℕ × ℕ)) where
   pub put_start : Put (suc p) 0 old
   put_start = record { front = refl; rest = refl; fits = omega arith }
 
-  module _ (at free : ℕ) (room : List (ℕ × ℕ)) (put : Put (suc at) free room) where
-    pub put_room : accepted r (between t at p) ≡ true → length (ending r t p) ≤ length old → free < length old
-    put_room is enough =
-        let here = ap length (cond-true (accepted r (between t at p)) ((at, p) ∷ starting r t p at) (starting r t p at) is) in
-        let fits = put.fits in
-        omega arith
+  -- a turn writes the match that starts at `at`, if the engine tells that there is one
+  module _ (n at free : ℕ) (room : List (ℕ × ℕ)) (put : Put n free room) (next : n ≡ suc at) {Z : Type 0} (after : List ℕ → Z) (state : Z) (on : On r t p after at state) (enough : length (ending r t p) ≤ length old) where
+    found : accepted r (between t at p) ≡ true → starting r t p n ≡ (at, p) ∷ starting r t p at
+    found is = ap (starting r t p) next ∙ cond-true (accepted r (between t at p)) ((at, p) ∷ starting r t p at) (starting r t p at) is
 
-    pub put_yes : accepted r (between t at p) ≡ true → free < length room → (free' : ℕ) (room' : List (ℕ × ℕ)) → free' ≡ free + 1 → room' ≡ set room free (at, p) → Put at free' room'
-    put_yes is lt free' room' e f =
-        let here = cond-true (accepted r (between t at p)) ((at, p) ∷ starting r t p at) (starting r t p at) is in
-        let long = ap length here in
+    room_for : accepted r (between t at p) ≡ true → free < length old
+    room_for is = let fits = put.fits in let long = ap length (found is) in omega arith
+
+    pub put_room : (b : Bool) → TellsWord r after state b → b ≡ true → free < length old
+    put_room b told is = room_for (sym (tells r t p after at state on b told) ∙ is)
+
+    put_by : (b : Bool) → b ≡ accepted r (between t at p) → length room ≡ length old → (free' : ℕ) (room' : List (ℕ × ℕ))
+        → MatchBool b ((free' ≡ free + 1) × (room' ≡ set room free (at, p))) ((free' ≡ free) × (room' ≡ room)) → Put at free' room'
+    put_by true is long free' room' (e, f) =
+        let lt = room_for (sym is) in
         let fits = put.fits in
-        let now : Put at (free + 1) (set room free (at, p)) = record {
+        let fewer = ap length (found (sym is)) in
+        record {
           front =
-              ap (λ l. l ++ starting r t p at) (take_more_set room free (at, p) lt)
+              (λ i. take (e i) (f i) ++ starting r t p at)
+              ∙ ap (λ l. l ++ starting r t p at) (take_more_set room free (at, p) (omega arith))
               ∙ append_assoc (take free room) ((at, p) ∷ []) (starting r t p at)
-              ∙ ap (λ l. take free room ++ l) (sym here)
+              ∙ ap (λ l. take free room ++ l) (sym (found (sym is)))
               ∙ put.front;
-          rest = drop-set-lt (free + 1) room free (at, p) (omega arith) ∙ drop_on free (free + 1) room old (omega arith) put.rest;
+          rest = (λ i. drop (e i) (f i)) ∙ drop-set-lt (free + 1) room free (at, p) (omega arith) ∙ drop_on free (free + 1) room old (omega arith) put.rest ∙ ap (λ m. drop m old) (sym e);
           fits = omega arith;
-        } in
-        subst (λ n. Put at n room') (sym e) (subst (Put at (free + 1)) (sym f) now)
+        }
+    put_by false is long free' room' (e, f) =
+        let none = ap (starting r t p) next ∙ cond-false (accepted r (between t at p)) ((at, p) ∷ starting r t p at) (starting r t p at) (sym is) in
+        record {
+          front = (λ i. take (e i) (f i) ++ starting r t p at) ∙ ap (λ l. take free room ++ l) (sym none) ∙ put.front;
+          rest = (λ i. drop (e i) (f i)) ∙ put.rest ∙ ap (λ m. drop m old) (sym e);
+          fits = ap (λ m. m + length (starting r t p at)) e ∙ ap (λ l. free + length l) (sym none) ∙ put.fits;
+        }
 
-    pub put_no : accepted r (between t at p) ≡ false → (free' : ℕ) (room' : List (ℕ × ℕ)) → free' ≡ free → room' ≡ room → Put at free' room'
-    put_no not free' room' e f =
-        let here = cond-false (accepted r (between t at p)) ((at, p) ∷ starting r t p at) (starting r t p at) not in
-        let now : Put at free room = record {
-          front = ap (λ l. take free room ++ l) (sym here) ∙ put.front;
-          rest = put.rest;
-          fits = ap (λ l. free + length l) (sym here) ∙ put.fits;
-        } in
-        subst (λ n. Put at n room') (sym e) (subst (Put at free) (sym f) now)
-
-    -- a turn writes the match that starts at `at`, if there is one
-    pub put_turn : (b : Bool) → b ≡ accepted r (between t at p) → length (ending r t p) ≤ length old → length room ≡ length old → (free' : ℕ) (room' : List (ℕ × ℕ))
-        → ((b ≡ true) × (free' ≡ free + 1) × (room' ≡ set room free (at, p))) ⊎ ((b ≡ false) × (free' ≡ free) × (room' ≡ room)) → Put at free' room'
-    put_turn b is enough long free' room' (inl (taken, e, f)) = let lt = put_room (sym is ∙ taken) enough in put_yes (sym is ∙ taken) (omega arith) free' room' e f
-    put_turn b is enough long free' room' (inr (left, e, f)) = put_no (sym is ∙ left) free' room' e f
+    pub put_turn : (b : Bool) → TellsWord r after state b → length room ≡ length old → (free' : ℕ) (room' : List (ℕ × ℕ))
+        → MatchBool b ((free' ≡ free + 1) × (room' ≡ set room free (at, p))) ((free' ≡ free) × (room' ≡ room)) → Put at free' room'
+    put_turn b told = put_by b (tells r t p after at state on b told)
 
   pub put_end : (n free : ℕ) (room : List (ℕ × ℕ)) → Put n free room → starting r t p n ≡ [] → room ≡ ending r t p ++ drop (length (ending r t p)) old
   put_end n free room put none =

@@ -1,4 +1,5 @@
 pub mod Rules
+pub mod Messages
 pub mod Calls
 pub mod Reckoning
 pub mod ListTheorem

@@ -21,8 +21,8 @@ pub fn perform<S: Symbol, E: Engine>(
 {
     let mut search = Search::open(text)?;
     let mut answers = Vec::with_capacity(heap, calls.len())?;
-    for i in 0..calls.len() {
-        answers.push_reserved(search.call(engines, spare, calls[i], table));
+    for &call in calls {
+        answers.push_reserved(search.call(engines, spare, call, table));
     }
     Ok(Outcome {
         numbers: search.numbers(),

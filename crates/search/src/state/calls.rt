@@ -1,48 +1,22 @@
 ghost use Rattle.std.specs.Prelude.{◌≡◌, ℕ, ◌+◌, ◌-◌, ◌<◌, ◌≤◌, min, map, length, take, MatchResult};
 ghost use Rattle.regular.specs.Language.{Regex};
 ghost use Rattle.refusal.specs.declared.Fault.TheVariants.{TextTooLong, BeyondText};
+ghost use Rattle.search.specs.Rules.{finished};
 ghost use Rattle.search.specs.Calls.{fresh, Stepped, Held, RanBy};
 ghost use Rattle.search.specs.ListTheorem.{SetAside};
 ghost use Rattle.search.specs.Performing.{CalledBy, named};
 
 use crate::numbers::{Answer, Call, Match, Numbers, Stop};
 use crate::state::Search;
-use crate::walks::{add, walk};
+use crate::walks::Spot;
 use engine::{Engine, Symbol};
-use refusal::Fault;
-
-fn ahead(place: u32, jump: u32, limit: u32) -> u32
-    requires { place ≤ limit }
-    ensures { result ≡ min (place + jump) limit }
-{
-    if jump < limit - place {
-        place + jump
-    } else {
-        limit
-    }
-}
+use refusal::{Fault, LONGEST_TEXT};
 
 // The engine of a number, or the spare one where there is none.
 fn pick<'e, E>(engines: &'e [E], spare: &'e E, number: usize) -> &'e E
     ensures { result.now ≡ named engines.now spare.now number }
 {
-    if number < engines.len() {
-        &engines[number]
-    } else {
-        spare
-    }
-}
-
-fn at_rest(place: u32) -> Numbers
-    ensures { result ≡ fresh place }
-{
-    Numbers {
-        from: place,
-        next: place,
-        filled: 0,
-        walks: 0,
-        reads: 0,
-    }
+    engines.get(number).unwrap_or(spare)
 }
 
 impl<'t, S: Symbol> Search<'t, S> {
@@ -58,13 +32,20 @@ impl<'t, S: Symbol> Search<'t, S> {
     pub fn open(text: &'t [S]) -> Result<Search<'t, S>, Fault>
         ensures { MatchResult result (λ s. (length text.now ≤ 65535) × (s.text ≡ text.entry) × (s.numbers ≡ fresh 0)) (λ f. (65535 < length text.now) × (f ≡ TextTooLong)) }
     {
-        if text.len() > 65535 {
+        if text.len() > LONGEST_TEXT {
             return Err(Fault::TextTooLong);
         }
         Ok(Search {
             text,
-            numbers: at_rest(0),
+            numbers: Numbers::at_rest(0),
         })
+    }
+
+    // Every place is looked at.
+    fn is_finished(&self) -> bool
+        ensures { result ≡ finished (map S.code self.now.text.now) self.now.numbers.next }
+    {
+        self.numbers.next as usize > self.text.len()
     }
 
     /// Lists the matches that end at the next place, and goes on to the place that the engine jumps to.
@@ -73,28 +54,39 @@ impl<'t, S: Symbol> Search<'t, S> {
         ensures text { self.new.text ≡ self.old.text }
         ensures step { MatchResult result (Stepped (E.expression engine.now) (E.shift engine.now) (map S.code self.old.text.now) self.old.numbers self.new.numbers table.old table.new) (Held (E.expression engine.now) (E.shift engine.now) (map S.code self.old.text.now) self.old.numbers self.new.numbers table.old table.new) }
     {
-        let numbers = self.numbers;
-        let place = numbers.next;
-        let text = self.text;
-        if place as usize > text.len() {
+        let Numbers {
+            from,
+            next: place,
+            filled,
+            walks,
+            reads,
+        } = self.numbers;
+        if self.is_finished() {
             return Err(Fault::Finished {
                 place: place as usize,
             });
         }
-        let walked = walk(engine, text, place);
-        if walked.count as usize > table.len().saturating_sub(numbers.filled as usize) {
+        let text = self.text;
+        let spot = Spot {
+            engine,
+            text,
+            place,
+        };
+        let walked = spot.walk();
+        let matches = walked.count as usize;
+        if matches > table.len().saturating_sub(filled as usize) {
             return Err(Fault::NoRoom {
                 place: place as usize,
-                matches: walked.count as usize,
+                matches,
             });
         }
-        add(engine, text, place, table, numbers.filled, walked.count);
+        spot.add(table, filled, walked.count);
         self.numbers = Numbers {
-            from: numbers.from,
-            next: ahead(place, walked.jump, text.len() as u32 + 1),
-            filled: numbers.filled + walked.count,
-            walks: numbers.walks + 1,
-            reads: numbers.reads + walked.reads,
+            from,
+            next: place.saturating_add(walked.jump).min(text.len() as u32 + 1),
+            filled: filled + walked.count,
+            walks: walks + 1,
+            reads: reads + walked.reads,
         };
         Ok(walked.count)
     }
@@ -105,8 +97,9 @@ impl<'t, S: Symbol> Search<'t, S> {
         ensures run { RanBy (E.expression engine.now) (E.shift engine.now) (map S.code self.old.text.now) self.old.numbers self.new.numbers table.old table.new budget result.0 result.1 }
     {
         let mut done = 0;
+        // a form that this project fixes (docs/DECISIONS.md)
         let stop = loop {
-            if self.numbers.next as usize > self.text.len() {
+            if self.is_finished() {
                 break Stop::Finished;
             }
             if done == budget {
@@ -127,7 +120,7 @@ impl<'t, S: Symbol> Search<'t, S> {
         ensures after { self.new.numbers ≡ fresh self.old.numbers.next }
     {
         let numbers = self.numbers;
-        self.numbers = at_rest(numbers.next);
+        self.numbers = Numbers::at_rest(numbers.next);
         numbers.filled
     }
 
@@ -141,7 +134,7 @@ impl<'t, S: Symbol> Search<'t, S> {
                 place: place as usize,
             });
         }
-        self.numbers = at_rest(place);
+        self.numbers = Numbers::at_rest(place);
         Ok(())
     }
 
@@ -157,19 +150,17 @@ impl<'t, S: Symbol> Search<'t, S> {
         ensures by { (r : Regex) → ((i : ℕ) → E.expression (named engines.now spare.now i) ≡ r) → SetAside r (map S.code self.old.text.now) self.old.numbers (take self.old.numbers.filled table.old) → CalledBy r (map S.code self.old.text.now) (λ i. E.shift (named engines.now spare.now i)) call self.old.numbers self.new.numbers table.old table.new result }
     {
         match call {
-            Call::Step { engine } => match self.step(pick(engines, spare, engine), table) {
-                Ok(count) => Answer::Wrote(count),
-                Err(fault) => Answer::Refused(fault),
-            },
+            Call::Step { engine } => self
+                .step(pick(engines, spare, engine), table)
+                .map_or_else(Answer::Refused, Answer::Wrote),
             Call::Run { engine, budget } => {
                 let (done, stop) = self.run(pick(engines, spare, engine), table, budget);
                 Answer::Ran(done, stop)
             }
             Call::Clear => Answer::Cleared(self.clear()),
-            Call::Move { place } => match self.move_to(place) {
-                Ok(()) => Answer::Moved,
-                Err(fault) => Answer::Refused(fault),
-            },
+            Call::Move { place } => self
+                .move_to(place)
+                .map_or_else(Answer::Refused, |_| Answer::Moved),
         }
     }
 }
