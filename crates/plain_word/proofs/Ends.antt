@@ -10,7 +10,7 @@ use Rattle.distance.specs.Kinds.{SameKinds, Member, Apart, TailsOfKinds}
 use Rattle.distance.specs.Distances.{FullLength, Full, last}
 use Rattle.distance.proofs.Alike.{like_same, like_length}
 use Rattle.distance.proofs.Safe.{length_last}
-use Rattle.word.specs.Jumps.{Precedes}
+use Rattle.plain_word.specs.Jumps.{Precedes}
 
 module _ (r : Regex) (w : List ℕ) (alone : (v : List ℕ) → Word r v ↔ (v ≡ w)) where
   -- a tail is an end of the word
