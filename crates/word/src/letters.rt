@@ -72,7 +72,7 @@ impl Letters {
     pub(crate) fn least_moves(&self, heap: Global) -> Result<Vec<u32>, AllocError>
         ensures { IfOk result (λ v. (vec_len v ≡ length self.now + 1) × ((j : ℕ) → j < vec_len v → LeastMove self.now j (slice_index v.items j))) }
     {
-        (0..self.list.len() + 1)
+        (0..=self.list.len())
             .map(|j| self.least_move(j))
             .collect(heap)
     }
