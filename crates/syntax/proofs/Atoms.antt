@@ -1,25 +1,29 @@
 -- The reading of atoms and of items. Assumes nothing.
-use Rattle.std.proofs.Common.{◌≡◌, ℕ, suc, ◌+◌, ◌-◌, ◌<◌, ◌≤◌, Bool, true, false, eqb, ltb, ◌⊎◌, List, [], ◌∷◌, ◌++◌, length, get_or, drop, Ok, Err, Result, sym, refl, ap, ◌∙◌, subst, ⊎_elim, append_assoc, arith, length-append, MatchOption}
+use Rattle.std.proofs.Common.{◌≡◌, ℕ, suc, ◌+◌, ◌-◌, ◌<◌, ◌≤◌, Bool, true, false, ◌||◌, eqb, ltb, ◌⊎◌, List, [], ◌∷◌, ◌++◌, length, get_or, drop, Some, None, option_and_then, Ok, Err, Option, Result, sym, refl, ap, ◌∙◌, subst, ⊎_elim, append_assoc, arith, length-append, length-drop, add-zero, MatchOption}
 use mathlib.Core.Path.{fun_ext}
-use Rattle.std.proofs.lemmas.Bool.{true≢false, false≢true, lt-ltb, ltb-true, and_parts}
+use Rattle.std.proofs.lemmas.Bool.{true≢false, ltb-true, and_parts, or_parts}
+use Rattle.std.proofs.lemmas.Option.{slice_get-get_or, slice_get_past}
 use Rattle.regular.specs.Language.{one}
 use Rattle.syntax.specs.declared.mode.Mode.{Mode}
 use Rattle.syntax.specs.declared.lexer.Token.{Token}
-use Rattle.syntax.specs.declared.lexer.Token.TheVariants.{Open, Close, Bar, Star, Plus, Query, Dot, Unit, Set}
+use Rattle.syntax.specs.declared.lexer.Token.TheVariants.{Open, Close, Bar, Mark, Dot, Unit, Set}
+use Rattle.syntax.specs.declared.tree.Mark as tree
+use Rattle.syntax.specs.declared.tree.Mark.TheVariants.{Star, Plus, Query}
 use Rattle.refusal.specs.declared.Fault.{Fault}
 use Rattle.syntax.specs.declared.tree.Node.{Node}
 use Rattle.syntax.specs.declared.tree.Node.TheVariants.{Atom}
-use Rattle.syntax.specs.Grammar.{Mark, once, any, some_times, perhaps, Simple, dot, unit, set, Tree, expression, atom, marked, group, simple, written_mark, written, bare, letter}
+use Rattle.syntax.specs.Grammar as grammar
+use Rattle.syntax.specs.Grammar.{once, any, some_times, perhaps, Simple, dot, unit, set, Tree, expression, atom, marked, group, simple, written_mark, written, bare, letter}
 use Rattle.syntax.specs.Lexer.{stands_at}
 use Rattle.syntax.specs.Lexer as tokens
 use Rattle.syntax.specs.Lexer.{Lexeme, written_lexeme, Stands, Atomic, Table}
-use Rattle.syntax.specs.Parser.{nesting, Means, Got, Unmarked}
-use Rattle.syntax.specs.Tree.{Grouped, Repeated}
+use Rattle.syntax.specs.Parser.{nesting, Means, Got, Unmarked, mark_of_byte, mark_at}
+use Rattle.syntax.specs.Tree.{mark_of, Grouped, Repeated}
 use Rattle.syntax.specs.declared.tree.Atom as atoms
 use Rattle.syntax.proofs.Lexes.{drop_past, head_in, head_is}
 use Rattle.syntax.proofs.Tables.{single_exact}
-use Rattle.syntax.proofs.Meant.{means_group, means_marked}
-use Rattle.syntax.proofs.Rows.{Items, Expressions, unmarked_at, stands_there}
+use Rattle.syntax.proofs.Meant.{means_group, means_marked, once_repeated}
+use Rattle.syntax.proofs.Rows.{Items, Expressions, stands_there}
 
 abbrev pub Atoms : Mode → List ℕ → ℕ → ℕ → Result (Node × ℕ) Fault → Type 0
 Atoms m w p left r = (a : Tree m atom) (v : List ℕ) → drop p w ≡ written a ++ v → nesting a ≤ left → Got a p r
@@ -29,9 +33,7 @@ abbrev sign : Token → Bool
 sign Open = true
 sign Close = true
 sign Bar = true
-sign Star = true
-sign Plus = true
-sign Query = true
+sign (Mark k) = true
 sign Dot = false
 sign (Unit c) = false
 sign (Set n r p) = false
@@ -42,19 +44,17 @@ simple_no_sign m (unit a x) p t h = ap sign h
 simple_no_sign m (set n xs) p t (r, h, _) = ap sign h
 
 module _ {t : Token} where
-  signs : (t ≡ Close) ⊎ ((t ≡ Bar) ⊎ ((t ≡ Star) ⊎ ((t ≡ Plus) ⊎ (t ≡ Query)))) → sign t ≡ true
-  signs = ⊎_elim (ap sign) (⊎_elim (ap sign) (⊎_elim (ap sign) (⊎_elim (ap sign) (ap sign))))
+  signs : (t ≡ Close) ⊎ ((t ≡ Bar) ⊎ ((k : tree.Mark) × (t ≡ Mark k))) → sign t ≡ true
+  signs = ⊎_elim (ap sign) (⊎_elim (ap sign) (λ (_, e). ap sign e))
 
   apart : {u : Token} → t ≡ u → (u ≡ Open → ⊥) → t ≡ Open → ⊥
   apart e h o = h (sym e ∙ o)
 
-  not_open : (t ≡ Close) ⊎ ((t ≡ Bar) ⊎ ((t ≡ Star) ⊎ ((t ≡ Plus) ⊎ (t ≡ Query)))) → t ≡ Open → ⊥
+  not_open : (t ≡ Close) ⊎ ((t ≡ Bar) ⊎ ((k : tree.Mark) × (t ≡ Mark k))) → t ≡ Open → ⊥
   not_open = ⊎_elim
       (λ e. apart e (λ o. let y : ◌≡◌ {A = ℕ} 0 1 = cc in omega arith)) (⊎_elim
-      (λ e. apart e (λ o. let y : ◌≡◌ {A = ℕ} 0 1 = cc in omega arith)) (⊎_elim
-      (λ e. apart e (λ o. let y : ◌≡◌ {A = ℕ} 0 1 = cc in omega arith)) (⊎_elim
       (λ e. apart e (λ o. let y : ◌≡◌ {A = ℕ} 0 1 = cc in omega arith))
-      (λ e. apart e (λ o. let y : ◌≡◌ {A = ℕ} 0 1 = cc in omega arith)))))
+      (λ (_, e). apart e (λ o. let y : ◌≡◌ {A = ℕ} 0 1 = cc in omega arith)))
 
 pub stands_in : (w : List ℕ) (q b : ℕ) → true ≡ stands_at b w q → q < length w
 stands_in w q b s = ltb-true q (length w) (and_parts (ltb q (length w)) (eqb (get_or w q 0) b) (sym s)).0
@@ -95,47 +95,49 @@ module _ (m : Mode) (w : List ℕ) (p left : ℕ) where
           next,
         )
 
-    pub atom_sign : (t ≡ Close) ⊎ ((t ≡ Bar) ⊎ ((t ≡ Star) ⊎ ((t ≡ Plus) ⊎ (t ≡ Query)))) → (f : Fault) → Atoms m w p left (Err f)
+    pub atom_sign : (t ≡ Close) ⊎ ((t ≡ Bar) ⊎ ((k : tree.Mark) × (t ≡ Mark k))) → (f : Fault) → Atoms m w p left (Err f)
     atom_sign is f (group x) v e n = let o = (found tokens.open_group _ e).0 in absurd (not_open is o)
     atom_sign is f (simple s) v e n = let (st, _) = found (tokens.atom s) v e in absurd (true≢false (sym (signs is) ∙ simple_no_sign m s p t st))
 
   pub item_lost : (f : Fault) → Atoms m w p left (Err f) → Items m w p left (Err f)
   item_lost f h (marked a k) v e u n = h a (written_mark k ++ v) (e ∙ append_assoc (written a) (written_mark k) v) n
 
-  -- the mark at q is k
-  abbrev Only : ℕ → Mark → Type 0
-  Only q k = (j : Mark) (v : List ℕ) → drop q w ≡ written_mark j ++ v → Unmarked v → j ≡ k
+  abbrev mark_or_once : Option tree.Mark → grammar.Mark
+  mark_or_once None = once
+  mark_or_once (Some k) = mark_of k
 
-  pub item_read : (x f : Node) (q : ℕ) (k : Mark) → Only q k → Atoms m w p left (Ok (x, q)) → Repeated k x f → Items m w p left (Ok (f, q + length (written_mark k)))
+  -- the mark at q is k
+  abbrev Only : ℕ → grammar.Mark → Type 0
+  Only q k = (j : grammar.Mark) (v : List ℕ) → drop q w ≡ written_mark j ++ v → Unmarked v → j ≡ k
+
+  item_read : (x f : Node) (q : ℕ) (k : grammar.Mark) → Only q k → Atoms m w p left (Ok (x, q)) → Repeated k x f → Items m w p left (Ok (f, q + length (written_mark k)))
   item_read x f q k o h l (marked a j) v e u n =
       let (means, place) = h a (written_mark j ++ v) (e ∙ append_assoc (written a) (written_mark j) v) n in
       let same = o j v (ap (λ z. drop z w) place ∙ drop_past w p (written a) (written_mark j ++ v) (e ∙ append_assoc (written a) (written_mark j) v)) u in
       (subst (λ z. Means f (marked a z)) (sym same) (means_marked k l means), omega (arith, place, length-append (written a) (written_mark j), ap (λ z. length (written_mark z)) same))
 
   module _ (q : ℕ) where
-    other : (b c : ℕ) (v : List ℕ) → drop q w ≡ b ∷ v → eqb b c ≡ false → stands_at c w q ≡ false
-    other b c v e n = rw (lt-ltb q (length w) (head_in w q b v e), head_is w q b v e) n
+    byte_at : (b : ℕ) (v : List ℕ) → drop q w ≡ b ∷ v → mark_at w q ≡ mark_of_byte b
+    byte_at b v e = ap (option_and_then mark_of_byte) (slice_get-get_or w q 0 (head_in w q b v e) ∙ ap Some (head_is w q b v e))
 
-    pub only_any : true ≡ stands_at 42 w q → Only q any
-    only_any s once v e u = absurd (true≢false (s ∙ (unmarked_at w q v e u).0))
-    only_any s any v e u = refl
-    only_any s some_times v e u = absurd (true≢false (s ∙ other 43 42 v e refl))
-    only_any s perhaps v e u = absurd (true≢false (s ∙ other 63 42 v e refl))
+    only_at : Only q (mark_or_once (mark_at w q))
+    only_at once [] e u = sym (ap (λ z. mark_or_once (option_and_then mark_of_byte z)) (slice_get_past w q (omega (arith, ap length e, length-drop q w))))
+    only_at once (b ∷ v) e u =
+        let k = or_parts (eqb b 42) (eqb b 43 || eqb b 63) u in
+        let j = or_parts (eqb b 43) (eqb b 63) k.1 in
+        let none : mark_of_byte b ≡ None = rw (k.0, j.0, j.1) refl in
+        sym (ap mark_or_once (byte_at b v e ∙ none))
+    only_at any v e u = sym (ap mark_or_once (byte_at 42 v e))
+    only_at some_times v e u = sym (ap mark_or_once (byte_at 43 v e))
+    only_at perhaps v e u = sym (ap mark_or_once (byte_at 63 v e))
 
-    pub only_some : true ≡ stands_at 43 w q → Only q some_times
-    only_some s once v e u = absurd (true≢false (s ∙ (unmarked_at w q v e u).1))
-    only_some s any v e u = absurd (true≢false (s ∙ other 42 43 v e refl))
-    only_some s some_times v e u = refl
-    only_some s perhaps v e u = absurd (true≢false (s ∙ other 63 43 v e refl))
+  pub item_marked : (x f : Node) (q : ℕ) (k : tree.Mark) → Some k ≡ mark_at w q → Atoms m w p left (Ok (x, q)) → Repeated (mark_of k) x f → Items m w p left (Ok (f, q + 1))
+  item_marked x f q k e h l = rw (← long k) (item_read x f q (mark_of k) (subst (λ z. Only q (mark_or_once z)) (sym e) (only_at q)) h l)
+    where
+      long : (k : tree.Mark) → length (written_mark (mark_of k)) ≡ 1
+      long Star = refl
+      long Plus = refl
+      long Query = refl
 
-    pub only_perhaps : true ≡ stands_at 63 w q → Only q perhaps
-    only_perhaps s once v e u = absurd (true≢false (s ∙ (unmarked_at w q v e u).2))
-    only_perhaps s any v e u = absurd (true≢false (s ∙ other 42 63 v e refl))
-    only_perhaps s some_times v e u = absurd (true≢false (s ∙ other 43 63 v e refl))
-    only_perhaps s perhaps v e u = refl
-
-    pub only_once : false ≡ stands_at 42 w q → false ≡ stands_at 43 w q → false ≡ stands_at 63 w q → Only q once
-    only_once s t r once v e u = refl
-    only_once s t r any v e u = absurd (false≢true (s ∙ stands_there w q 42 v e))
-    only_once s t r some_times v e u = absurd (false≢true (t ∙ stands_there w q 43 v e))
-    only_once s t r perhaps v e u = absurd (false≢true (r ∙ stands_there w q 63 v e))
+  pub item_once : (x : Node) (q : ℕ) → None ≡ mark_at w q → Atoms m w p left (Ok (x, q)) → Items m w p left (Ok (x, q))
+  item_once x q e h = rw (← add-zero q) (item_read x x q once (subst (λ z. Only q (mark_or_once z)) (sym e) (only_at q)) h (once_repeated x))

@@ -8,9 +8,10 @@ use Rattle.syntax.specs.declared.grammar.Begun.TheVariants.{Not}
 use Rattle.syntax.specs.Grammar.{plain, escaped, newline, pair, Value, Member, single, range, Members, last, more, special, digit, code, opening, closing, separator, caret, dot, unit, set, Alone, written_value, written_member, written_members, written_simple}
 use Rattle.syntax.specs.Automaton.{begins}
 use Rattle.syntax.specs.Lexer.{value_at, until, stands_at, sign_token}
-use Rattle.syntax.specs.Lexer.{Lexeme, open_group, close_group, bar, star, plus, query, atom, written_lexeme, Stands, Lexed, Short}
+use Rattle.syntax.specs.Lexer.{Lexeme, open_group, close_group, bar, mark, atom, written_lexeme, Stands, Lexed, Short}
 use Rattle.syntax.specs.declared.lexer.Token.{Token}
-use Rattle.syntax.specs.declared.lexer.Token.TheVariants.{Open, Close, Bar, Star, Plus, Query, Dot, Unit, Set}
+use Rattle.syntax.specs.declared.lexer.Token.TheVariants.{Open, Close, Bar, Mark, Dot, Unit, Set}
+use Rattle.syntax.specs.declared.tree.Mark.TheVariants.{Star, Plus, Query}
 use Rattle.syntax.proofs.Options.{some_same, none_some}
 use Rattle.syntax.proofs.Complete.{Shape, whole, halves, shape, not_not, not_whole}
 
@@ -158,9 +159,7 @@ abbrev pub sign_lexeme : (m : Mode) → Token → Lexeme m
 sign_lexeme m Open = open_group
 sign_lexeme m Close = close_group
 sign_lexeme m Bar = bar
-sign_lexeme m Star = star
-sign_lexeme m Plus = plus
-sign_lexeme m Query = query
+sign_lexeme m (Mark k) = mark k
 sign_lexeme m Dot = atom dot
 sign_lexeme m (Unit c) = atom dot
 sign_lexeme m (Set n r p) = atom dot
@@ -186,9 +185,9 @@ pub lexeme_first : (m : Mode) (k : Lexeme m) (v : List ℕ) → (b : ℕ) × (u 
 lexeme_first m open_group v = (40, v, refl, sign_head Open refl (λ p. refl) refl refl)
 lexeme_first m close_group v = (41, v, refl, sign_head Close refl (λ p. refl) refl refl)
 lexeme_first m bar v = (124, v, refl, sign_head Bar refl (λ p. refl) refl refl)
-lexeme_first m star v = (42, v, refl, sign_head Star refl (λ p. refl) refl refl)
-lexeme_first m plus v = (43, v, refl, sign_head Plus refl (λ p. refl) refl refl)
-lexeme_first m query v = (63, v, refl, sign_head Query refl (λ p. refl) refl refl)
+lexeme_first m (mark Star) v = (42, v, refl, sign_head (Mark Star) refl (λ p. refl) refl refl)
+lexeme_first m (mark Plus) v = (43, v, refl, sign_head (Mark Plus) refl (λ p. refl) refl refl)
+lexeme_first m (mark Query) v = (63, v, refl, sign_head (Mark Query) refl (λ p. refl) refl refl)
 lexeme_first m (atom dot) v = (46, v, refl, sign_head Dot refl (λ p. refl) refl refl)
 lexeme_first Bytes (atom (unit a x)) v = let (b, u, e, s, n) = unit_first x v in (b, u, e, unit_head a x s n)
 lexeme_first Fields (atom (unit a x)) v = absurd a

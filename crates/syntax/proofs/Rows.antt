@@ -1,7 +1,7 @@
 -- Branches as rows of items, and expressions as branches with | between them, from left to right. Assumes nothing.
 use Rattle.std.proofs.Common.{◌≡◌, ℕ, Bool, true, false, not, ◌||◌, eqb, ◌⊎◌, List, [], ◌∷◌, ◌++◌, length, drop, Result, sym, refl, ap, ◌∙◌, subst, inl, inr, ⊎_elim, arith, length-drop}
 use Rattle.std.specs.List.{flat_map}
-use Rattle.std.proofs.lemmas.Bool.{lt-ltb, le-ltb, eq-eqb, or_parts}
+use Rattle.std.proofs.lemmas.Bool.{lt-ltb, le-ltb, eq-eqb}
 use Rattle.refusal.specs.declared.Fault.{Fault}
 use Rattle.syntax.specs.declared.mode.Mode.{Mode}
 use Rattle.syntax.specs.declared.mode.Mode.TheVariants.{Bytes, Fields}
@@ -57,14 +57,6 @@ closes_stops (b ∷ v) h = inr h
 
 -- tests at a place
 module _ (w : List ℕ) (p : ℕ) where
-  pub unmarked_at : (v : List ℕ) → drop p w ≡ v → Unmarked v → (stands_at 42 w p ≡ false) × (stands_at 43 w p ≡ false) × (stands_at 63 w p ≡ false)
-  unmarked_at [] e h = let l = le-ltb p (length w) (omega (arith, ap length e, length-drop p w)) in (rw l, rw l, rw l)
-  unmarked_at (b ∷ v) e h =
-      let l = lt-ltb p (length w) (head_in w p b v e) in
-      let k = or_parts (eqb b 42) (eqb b 43 || eqb b 63) h in
-      let j = or_parts (eqb b 43) (eqb b 63) k.1 in
-      (rw (l, head_is w p b v e) k.0, rw (l, head_is w p b v e) j.0, rw (l, head_is w p b v e) j.1)
-
   pub stands_there : (b : ℕ) (v : List ℕ) → drop p w ≡ b ∷ v → stands_at b w p ≡ true
   stands_there b v e = rw (lt-ltb p (length w) (head_in w p b v e), head_is w p b v e) (eq-eqb b b refl)
 

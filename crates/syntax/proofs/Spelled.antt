@@ -5,7 +5,7 @@ use Rattle.std.proofs.lemmas.Bool.{and_parts, both_ways, cases_Bool, cases_lt, e
 use Rattle.regular.specs.Language.{Regex, one, join, Word}
 use Rattle.regular.specs.Positions.{some_below}
 use Rattle.syntax.specs.declared.tree.Node.{Node}
-use Rattle.syntax.specs.declared.tree.Node.TheVariants.{Atom, Group', Join', Either', Star', Plus', Maybe'}
+use Rattle.syntax.specs.declared.tree.Node.TheVariants.{Atom, Group', Join', Either', Marked'}
 use Rattle.syntax.specs.Grammar.{letter, in_a_row}
 use Rattle.syntax.specs.Tree.{language, spelling, only, only_if, exact}
 use Rattle.syntax.proofs.Options.{some_same, none_some}
@@ -54,6 +54,4 @@ spelled_alone (Join' p a q b) w x e v = go (spelling a) (spelling b) refl refl e
     go (Some s) (Some t) f g e i j = let (y, z) = and_parts (exact a) (exact b) x in rw (← some_same e) (join_words (language a) (language b) s t (i s y f) (j t z g) v)
 spelled_alone (Group' p a) w x e v = none_some e
 spelled_alone (Either' p a q b) w x e v = none_some e
-spelled_alone (Star' p a) w x e v = none_some e
-spelled_alone (Plus' p a) w x e v = none_some e
-spelled_alone (Maybe' p a) w x e v = none_some e
+spelled_alone (Marked' k p a) w x e v = none_some e

@@ -3,7 +3,8 @@ use Rattle.std.proofs.Common.{◌≡◌, List, [], ◌∷◌, ◌++◌, sym, ref
 use Rattle.syntax.specs.declared.mode.Mode.{Mode}
 use Rattle.syntax.specs.Grammar.{Mark, once, any, some_times, perhaps, dot, Level, expression, branch, item, Tree, only, or, lone, row, marked, group, simple, written}
 use Rattle.syntax.specs.Grammar as grammar
-use Rattle.syntax.specs.Lexer.{Lexeme, open_group, close_group, bar, star, plus, query, atom}
+use Rattle.syntax.specs.Lexer.{Lexeme, open_group, close_group, bar, mark, atom}
+use Rattle.syntax.specs.Tree.{mark_of}
 use Rattle.syntax.proofs.Sound.{Open, fresh, barred, Front, at, in_row, whole, grown, opened}
 use Rattle.syntax.proofs.Walks.{mark_lexeme, lexemes, lexemes_spelled}
 use Rattle.syntax.proofs.Decoded.{lexemes_same}
@@ -42,9 +43,7 @@ module _ (m : Mode) where
   feed (close_group ∷ ks) n [] = any_tree
   feed (close_group ∷ ks) n (f ∷ s) = feed ks (behind f (group (so_far n))) s
   feed (bar ∷ ks) n s = feed ks (before (at (barred (so_far n)))) s
-  feed (star ∷ ks) n s = feed ks (mark_it any n) s
-  feed (plus ∷ ks) n s = feed ks (mark_it some_times n) s
-  feed (query ∷ ks) n s = feed ks (mark_it perhaps n) s
+  feed (mark k ∷ ks) n s = feed ks (mark_it (mark_of k) n) s
   feed (atom x ∷ ks) n s = feed ks (behind (settled n) (simple x)) s
 
   -- behind an item, a branch and an expression

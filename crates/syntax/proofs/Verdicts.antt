@@ -5,6 +5,7 @@ use Rattle.regular.specs.Positions.{size}
 use Rattle.refusal.specs.declared.Fault.{Fault}
 use Rattle.refusal.specs.declared.Fault.TheVariants.{NotInGrammar, Memory}
 use Rattle.syntax.specs.declared.mode.Mode.{Mode}
+use Rattle.syntax.specs.declared.limits.TheConstants.{DEEPEST, LONGEST, MOST_POSITIONS}
 use Rattle.syntax.specs.declared.tree.Node.{Node}
 use Rattle.syntax.specs.Grammar.{Tree, expression, written}
 use Rattle.syntax.specs.Refusals.{OutsideGrammar, first, too_deep, reversed, empty_set, position, spots, breach_of, breach}
@@ -30,9 +31,9 @@ no_breach None (Some p) c d e = let y : ◌≡◌ {A = ℕ} 0 1 = cc in absurd (
 no_breach None None (Some p) d e = let y : ◌≡◌ {A = ℕ} 0 1 = cc in absurd (omega arith)
 no_breach None None None (Some p) e = let y : ◌≡◌ {A = ℕ} 0 1 = cc in absurd (omega arith)
 
-pub no_spots : {m : Mode} (t : Tree m expression) → breach t ≡ None → (spots too_deep t ≡ []) × (spots reversed t ≡ []) × (spots empty_set t ≡ []) × (drop 63 (spots position t) ≡ [])
+pub no_spots : {m : Mode} (t : Tree m expression) → breach t ≡ None → (spots too_deep t ≡ []) × (spots reversed t ≡ []) × (spots empty_set t ≡ []) × (drop MOST_POSITIONS (spots position t) ≡ [])
 no_spots t e =
-    let (a, b, c, d) = no_breach (first (spots too_deep t)) (first (spots reversed t)) (first (spots empty_set t)) (first (drop 63 (spots position t))) e in
+    let (a, b, c, d) = no_breach (first (spots too_deep t)) (first (spots reversed t)) (first (spots empty_set t)) (first (drop MOST_POSITIONS (spots position t))) e in
     (first_none _ a, first_none _ b, first_none _ c, first_none _ d)
 
 ok_none : (o : Option Fault) → ◌≡◌ {A = Result (Unit {0}) Fault} (Ok tt) (or_ok o) → o ≡ None
@@ -46,7 +47,7 @@ err_some (Some g) f e = ap Some (sym (inner e))
     inner : ◌≡◌ {A = Result (Unit {0}) Fault} (Err f) (Err g) → f ≡ g
     inner e = cc
 
-module _ (m : Mode) (w : List ℕ) (l : length w ≤ 1024) (some : (t : Tree m expression) × (written t ≡ w)) where
+module _ (m : Mode) (w : List ℕ) (l : length w ≤ LONGEST) (some : (t : Tree m expression) × (written t ≡ w)) where
   is_written : Written m w some.0
   is_written = record { short = l; as_bytes = some.1 }
 
@@ -58,14 +59,14 @@ module _ (m : Mode) (w : List ℕ) (l : length w ≤ 1024) (some : (t : Tree m e
     unbroken : breach some.0 ≡ None
     unbroken = ok_none (breach some.0) (limited some.0 some.1)
 
-    nested : nesting some.0 ≤ 16
+    nested : nesting some.0 ≤ DEEPEST
     nested = omega (arith, shallow some.0 0 0 (omega arith) (no_spots some.0 unbroken).0)
 
     -- what was read is the tree's
-    pub whole : (n : Node) (q : ℕ) → Expressions m w 0 16 (Ok (n, q)) → Means n some.0
+    pub whole : (n : Node) (q : ℕ) → Expressions m w 0 DEEPEST (Ok (n, q)) → Means n some.0
     whole n q h = (h some.0 [] (sym some.1 ∙ sym (append-nil _)) tt nested).0
 
-    pub lost : (f : Fault) → Expressions m w 0 16 (Err f) → Refusal m w f
+    pub lost : (f : Fault) → Expressions m w 0 DEEPEST (Err f) → Refusal m w f
     lost f h = no_memory (h some.0 [] (sym some.1 ∙ sym (append-nil _)) tt nested) some.0 is_written unbroken
 
     pub accepted : (n : Node) → Means n some.0 → Accepted m w n
@@ -73,8 +74,8 @@ module _ (m : Mode) (w : List ℕ) (l : length w ≤ 1024) (some : (t : Tree m e
 
 -- what an accepted tree has
 module _ (m : Mode) (w : List ℕ) (n : Node) (a : Accepted m w n) where
-  pub accepted_few : size (language n) ≤ 63
-  accepted_few = omega (arith, ap size a.means_it, tree_size a.tree 0 0, ap length (no_spots a.tree a.breaks_no_limit).3, length-drop 63 (spots position a.tree))
+  pub accepted_few : size (language n) ≤ MOST_POSITIONS
+  accepted_few = omega (arith, ap size a.means_it, tree_size a.tree 0 0, ap length (no_spots a.tree a.breaks_no_limit).3, length-drop MOST_POSITIONS (spots position a.tree))
 
   pub accepted_full : full n ≡ true
   accepted_full = ap filled a.means_it ∙ tree_filled a.tree 0 0 (no_spots a.tree a.breaks_no_limit).2

@@ -6,13 +6,17 @@ use Rattle.std.proofs.lemmas.Bool.{lt-leb, ltb-false}
 use Rattle.std.proofs.lemmas.Bool.Decides.{nat_tests}
 use Rattle.regular.specs.Positions.{some_below}
 use Rattle.syntax.specs.declared.mode.Mode.{Mode}
+use Rattle.syntax.specs.declared.limits.TheConstants.{DEEPEST, MOST_POSITIONS}
 use Rattle.syntax.specs.declared.lexer.Token.{Token}
-use Rattle.syntax.specs.declared.lexer.Token.TheVariants.{Open, Close, Bar, Star, Plus, Query, Dot, Unit, Set}
+use Rattle.syntax.specs.declared.lexer.Token.TheVariants.{Open, Close, Bar, Mark, Dot, Unit, Set}
+use Rattle.syntax.specs.declared.tree.Mark as tree
+use Rattle.syntax.specs.declared.tree.Mark.TheVariants.{Star, Plus, Query}
 use Rattle.syntax.specs.declared.limits.Findings.{Findings}
-use Rattle.syntax.specs.Grammar.{Mark, once, any, some_times, perhaps, Simple, dot, unit, set, Tree, Level, expression, only, or, lone, row, marked, group, simple, top, holds, written, written_mark, Part, group_at, simple_at, parts}
+use Rattle.syntax.specs.Grammar as grammar
+use Rattle.syntax.specs.Grammar.{once, any, some_times, perhaps, Simple, dot, unit, set, Tree, Level, expression, only, or, lone, row, marked, group, simple, top, holds, written, written_mark, Part, group_at, simple_at, parts}
 use Rattle.syntax.specs.Refusals as refusals
 use Rattle.syntax.specs.Refusals.{first, too_deep, reversed_simple, position, spots, breach_of}
-use Rattle.syntax.specs.Lexer.{Lexeme, open_group, close_group, bar, star, plus, query, atom, written_lexeme, Stands}
+use Rattle.syntax.specs.Lexer.{Lexeme, open_group, close_group, bar, mark, atom, written_lexeme, Stands}
 use Rattle.syntax.specs.Parser.{nesting}
 use Rattle.syntax.specs.Limits.{Noted, part_of, depth_behind, earlier_of, or_ok, verdict_of, Checked}
 use Rattle.syntax.proofs.Lexes.{lexeme_first, drop_past}
@@ -26,13 +30,13 @@ first_append [] ys = refl
 first_append (x ∷ xs) ys = refl
 
 -- the lexemes of a tree, in written order
-abbrev pub mark_lexeme : {m : Mode} → Mark → List (Lexeme m)
+abbrev pub mark_lexeme : {m : Mode} → grammar.Mark → List (Lexeme m)
 mark_lexeme once = []
-mark_lexeme any = star ∷ []
-mark_lexeme some_times = plus ∷ []
-mark_lexeme perhaps = query ∷ []
+mark_lexeme any = mark Star ∷ []
+mark_lexeme some_times = mark Plus ∷ []
+mark_lexeme perhaps = mark Query ∷ []
 
-mark_spelled : (m : Mode) (k : Mark) → flat_map (written_lexeme m) (mark_lexeme k) ≡ written_mark k
+mark_spelled : (m : Mode) (k : grammar.Mark) → flat_map (written_lexeme m) (mark_lexeme k) ≡ written_mark k
 mark_spelled m once = refl
 mark_spelled m any = refl
 mark_spelled m some_times = refl
@@ -69,7 +73,7 @@ module _ {m : Mode} where
   parts_from [] d p = []
   parts_from (k ∷ ks) d p = part_of k d p ++ parts_from ks (depth_behind k d) (p + length (written_lexeme m k))
 
-  mark_parts : (k : Mark) (ks : List (Lexeme m)) (d p : ℕ) → parts_from (mark_lexeme k ++ ks) d p ≡ parts_from ks d (p + length (written_mark k))
+  mark_parts : (k : grammar.Mark) (ks : List (Lexeme m)) (d p : ℕ) → parts_from (mark_lexeme k ++ ks) d p ≡ parts_from ks d (p + length (written_mark k))
   mark_parts once ks d p = ap (parts_from ks d) (omega arith)
   mark_parts any ks d p = refl
   mark_parts some_times ks d p = refl
@@ -104,7 +108,7 @@ module _ {m : Mode} where
   tree_parts t = sym (append-nil _) ∙ sym (ap (λ z. parts_from z 0 0) (sym (append-nil (lexemes t))) ∙ parts_are t [] 0 0)
 
   -- a tree with no group too deep is not nested deeper
-  pub shallow : {l : Level} (t : Tree m l) (d p : ℕ) → d ≤ 16 → flat_map too_deep (parts t d p) ≡ [] → nesting t + d ≤ 16
+  pub shallow : {l : Level} (t : Tree m l) (d p : ℕ) → d ≤ DEEPEST → flat_map too_deep (parts t d p) ≡ [] → nesting t + d ≤ DEEPEST
   shallow (only b) d p h e = shallow b d p h e
   shallow (or t b) d p h e =
       let (x, y) = append_none (flat_map too_deep (parts t d p)) (flat_map too_deep (parts b d (p + length (written t) + 1))) (sym (joined_append too_deep (parts t d p) _) ∙ e) in
@@ -115,13 +119,13 @@ module _ {m : Mode} where
       omega (arith, shallow b d p h x, shallow i d _ h y)
   shallow (marked a k) d p h e = shallow a d p h e
   shallow (group t) d p h e =
-      let (x, y) = append_none (cond (ltb 16 (d + 1)) (p ∷ []) []) _ e in
-      let l = low (ltb 16 (d + 1)) refl x in
+      let (x, y) = append_none (cond (ltb DEEPEST (d + 1)) (p ∷ []) []) _ e in
+      let l = low (ltb DEEPEST (d + 1)) refl x in
       omega (arith, shallow t (d + 1) (p + 1) l y)
     where
-      low : (b : Bool) → ltb 16 (d + 1) ≡ b → cond b (p ∷ []) [] ≡ [] → d + 1 ≤ 16
+      low : (b : Bool) → ltb DEEPEST (d + 1) ≡ b → cond b (p ∷ []) [] ≡ [] → d + 1 ≤ DEEPEST
       low true k x = absurd (nil≢cons (sym x))
-      low false k x = ltb-false 16 (d + 1) k
+      low false k x = ltb-false DEEPEST (d + 1) k
   shallow (simple s) d p h e = omega arith
 
 -- lexemes by the kind of their tokens
@@ -129,9 +133,7 @@ abbrev kind : Token → ℕ
 kind Open = 0
 kind Close = 1
 kind Bar = 2
-kind Star = 2
-kind Plus = 2
-kind Query = 2
+kind (Mark k) = 2
 kind Dot = 3
 kind (Unit c) = 3
 kind (Set n r p) = 3
@@ -141,32 +143,26 @@ module _ {m : Mode} where
   kind_of open_group = 0
   kind_of close_group = 1
   kind_of bar = 2
-  kind_of star = 2
-  kind_of plus = 2
-  kind_of query = 2
+  kind_of (mark k) = 2
   kind_of (atom s) = 3
 
   same_kind : (k : Lexeme m) (p : ℕ) (t : Token) → Stands m k p t → kind t ≡ kind_of k
   same_kind open_group p t h = ap kind h
   same_kind close_group p t h = ap kind h
   same_kind bar p t h = ap kind h
-  same_kind star p t h = ap kind h
-  same_kind plus p t h = ap kind h
-  same_kind query p t h = ap kind h
+  same_kind (mark k) p t h = ap kind h
   same_kind (atom dot) p t h = ap kind h
   same_kind (atom (unit a x)) p t h = ap kind h
   same_kind (atom (set n xs)) p t (r, h, _) = ap kind h
 
-pub kind_rest : (t : Token) → (t ≡ Open → ⊥) → (t ≡ Close → ⊥) → (t ≡ Bar → ⊥) → (t ≡ Star → ⊥) → (t ≡ Plus → ⊥) → (t ≡ Query → ⊥) → kind t ≡ 3
-kind_rest Open a b c d e f = absurd (a refl)
-kind_rest Close a b c d e f = absurd (b refl)
-kind_rest Bar a b c d e f = absurd (c refl)
-kind_rest Star a b c d e f = absurd (d refl)
-kind_rest Plus a b c d e f = absurd (e refl)
-kind_rest Query a b c d e f = absurd (f refl)
-kind_rest Dot a b c d e f = refl
-kind_rest (Unit x) a b c d e f = refl
-kind_rest (Set n r p) a b c d e f = refl
+pub kind_rest : (t : Token) → (t ≡ Open → ⊥) → (t ≡ Close → ⊥) → (t ≡ Bar → ⊥) → ((k : tree.Mark) → t ≡ Mark k → ⊥) → kind t ≡ 3
+kind_rest Open a b c d = absurd (a refl)
+kind_rest Close a b c d = absurd (b refl)
+kind_rest Bar a b c d = absurd (c refl)
+kind_rest (Mark k) a b c d = absurd (d k refl)
+kind_rest Dot a b c d = refl
+kind_rest (Unit x) a b c d = refl
+kind_rest (Set n r p) a b c d = refl
 
 module _ (m : Mode) (t : Token) (p : ℕ) (f : Findings) where
   -- what a token does to the findings
@@ -180,9 +176,7 @@ module _ (m : Mode) (t : Token) (p : ℕ) (f : Findings) where
       go open_group e = (h done n, d)
       go close_group e = absurd (omega arith)
       go bar e = absurd (omega arith)
-      go star e = absurd (omega arith)
-      go plus e = absurd (omega arith)
-      go query e = absurd (omega arith)
+      go (mark x) e = absurd (omega arith)
       go (atom s) e = absurd (omega arith)
 
   same_noted : (r : Findings) (done : List (Part m)) → Noted m r done → Noted m r (done ++ [])
@@ -195,9 +189,7 @@ module _ (m : Mode) (t : Token) (p : ℕ) (f : Findings) where
       go open_group e = absurd (omega arith)
       go close_group e = (same_noted r done (h done n), d)
       go bar e = absurd (omega arith)
-      go star e = absurd (omega arith)
-      go plus e = absurd (omega arith)
-      go query e = absurd (omega arith)
+      go (mark x) e = absurd (omega arith)
       go (atom s) e = absurd (omega arith)
 
   pub notes_other : kind t ≡ 2 → Notes f
@@ -207,9 +199,7 @@ module _ (m : Mode) (t : Token) (p : ℕ) (f : Findings) where
       go open_group e = absurd (omega arith)
       go close_group e = absurd (omega arith)
       go bar e = (same_noted f done n, refl)
-      go star e = (same_noted f done n, refl)
-      go plus e = (same_noted f done n, refl)
-      go query e = (same_noted f done n, refl)
+      go (mark x) e = (same_noted f done n, refl)
       go (atom s) e = absurd (omega arith)
 
   pub notes_atom : (r : Findings) → kind t ≡ 3 → ((s : Simple m) (done : List (Part m)) → Stands m (atom s) p t → Noted m f done → Noted m r (done ++ (simple_at s p ∷ []))) → r.depth ≡ f.depth → Notes r
@@ -219,9 +209,7 @@ module _ (m : Mode) (t : Token) (p : ℕ) (f : Findings) where
       go open_group e st = absurd (omega arith)
       go close_group e st = absurd (omega arith)
       go bar e st = absurd (omega arith)
-      go star e st = absurd (omega arith)
-      go plus e st = absurd (omega arith)
-      go query e st = absurd (omega arith)
+      go (mark x) e st = absurd (omega arith)
       go (atom s) e st = (h s done st n, d)
 
 -- one part more
@@ -258,21 +246,21 @@ not_first true p = refl
 not_first false p = refl
 
 module _ {m : Mode} (f r : Findings) (done : List (Part m)) (n : Noted m f done) (p : ℕ) where
-  pub noted_group : (d : ℕ) → r.deep ≡ earlier_of f.deep (cond (ltb 16 d) (Some p) None) → r.reversed ≡ f.reversed → r.empty ≡ f.empty → r.over ≡ f.over → r.positions ≡ f.positions → Noted m r (done ++ (group_at d p ∷ []))
+  pub noted_group : (d : ℕ) → r.deep ≡ earlier_of f.deep (cond (ltb DEEPEST d) (Some p) None) → r.reversed ≡ f.reversed → r.empty ≡ f.empty → r.over ≡ f.over → r.positions ≡ f.positions → Noted m r (done ++ (group_at d p ∷ []))
   noted_group d a b c e g =
       let x = group_at d p in
       record {
-        deep = a ∙ first_more too_deep done x _ _ n.deep (cond_first (ltb 16 d) p);
+        deep = a ∙ first_more too_deep done x _ _ n.deep (cond_first (ltb DEEPEST d) p);
         reversed = first_same refusals.reversed done x _ (b ∙ n.reversed) refl;
         empty = first_same refusals.empty_set done x _ (c ∙ n.empty) refl;
-        over = e ∙ n.over ∙ ap (λ z. first (drop 63 z)) (sym (append-nil _) ∙ sym (joined_one position done x));
+        over = e ∙ n.over ∙ ap (λ z. first (drop MOST_POSITIONS z)) (sym (append-nil _) ∙ sym (joined_one position done x));
         positions = g ∙ n.positions ∙ ap length (sym (append-nil _) ∙ sym (joined_one position done x));
       }
 
   pub noted_same : r.deep ≡ f.deep → r.reversed ≡ f.reversed → r.empty ≡ f.empty → r.over ≡ f.over → r.positions ≡ f.positions → Noted m r done
   noted_same a b c e g = record { deep = a ∙ n.deep; reversed = b ∙ n.reversed; empty = c ∙ n.empty; over = e ∙ n.over; positions = g ∙ n.positions }
 
-  pub noted_simple : (s : Simple m) (x : Option ℕ) (y : Bool) → r.deep ≡ f.deep → x ≡ first (reversed_simple m s p) → y ≡ not (some_below (top m + 1) (holds m s)) → r.reversed ≡ earlier_of f.reversed x → r.empty ≡ earlier_of f.empty (cond y (Some p) None) → r.over ≡ earlier_of f.over (cond (leb 63 f.positions) (Some p) None) → r.positions ≡ f.positions + 1 → Noted m r (done ++ (simple_at s p ∷ []))
+  pub noted_simple : (s : Simple m) (x : Option ℕ) (y : Bool) → r.deep ≡ f.deep → x ≡ first (reversed_simple m s p) → y ≡ not (some_below (top m + 1) (holds m s)) → r.reversed ≡ earlier_of f.reversed x → r.empty ≡ earlier_of f.empty (cond y (Some p) None) → r.over ≡ earlier_of f.over (cond (leb MOST_POSITIONS f.positions) (Some p) None) → r.positions ≡ f.positions + 1 → Noted m r (done ++ (simple_at s p ∷ []))
   noted_simple s x y a u v b c e g =
       let z = simple_at s p in
       let long = joined_one position done z in
@@ -280,7 +268,7 @@ module _ {m : Mode} (f r : Findings) (done : List (Part m)) (n : Noted m f done)
         deep = first_same too_deep done z _ (a ∙ n.deep) refl;
         reversed = b ∙ first_more refusals.reversed done z _ _ n.reversed u;
         empty = c ∙ first_more refusals.empty_set done z _ _ n.empty (ap (λ t. cond t (Some p) None) v ∙ not_first (some_below (top m + 1) (holds m s)) p);
-        over = e ∙ ap (λ t. earlier_of t (cond (leb 63 f.positions) (Some p) None)) n.over ∙ ap (λ t. earlier_of (first (drop 63 (flat_map position done))) (cond (leb 63 t) (Some p) None)) n.positions ∙ sym (ap (λ t. first (drop 63 t)) long ∙ drop_more_one 63 (flat_map position done) p);
+        over = e ∙ ap (λ t. earlier_of t (cond (leb MOST_POSITIONS f.positions) (Some p) None)) n.over ∙ ap (λ t. earlier_of (first (drop MOST_POSITIONS (flat_map position done))) (cond (leb MOST_POSITIONS t) (Some p) None)) n.positions ∙ sym (ap (λ t. first (drop MOST_POSITIONS t)) long ∙ drop_more_one MOST_POSITIONS (flat_map position done) p);
         positions = g ∙ ap (λ t. t + 1) n.positions ∙ sym (ap length long ∙ length-append (flat_map position done) (p ∷ []));
       }
 

@@ -3,10 +3,14 @@ use Rattle.std.specs.Prelude.{◌≡◌, ℕ, suc, ◌+◌, ◌-◌, ◌*◌, �
 use Rattle.std.specs.Borrow.{Bor}
 use Rattle.refusal.specs.declared.Fault.{Fault}
 use Rattle.syntax.specs.declared.mode.Mode.{Mode}
+use Rattle.syntax.specs.declared.limits.TheConstants.{LONGEST}
 use Rattle.syntax.specs.declared.mode.Mode.TheVariants.{Bytes, Fields}
 use Rattle.syntax.specs.declared.lexer.Token.{Token}
-use Rattle.syntax.specs.declared.lexer.Token.TheVariants.{Open, Close, Bar, Star, Plus, Query, Dot, Unit, Set}
-use Rattle.syntax.specs.Grammar.{Simple, dot, unit, set, code, digit, holds, written_members, written_simple}
+use Rattle.syntax.specs.declared.lexer.Token.TheVariants.{Open, Close, Bar, Mark, Dot, Unit, Set}
+use Rattle.syntax.specs.declared.tree.Mark as tree
+use Rattle.syntax.specs.declared.tree.Mark.TheVariants.{Star, Plus, Query}
+use Rattle.syntax.specs.Grammar.{Simple, dot, unit, set, code, digit, holds, written_members, written_simple, written_mark}
+use Rattle.syntax.specs.Tree.{mark_of}
 
 -- the byte b stands at the place p
 abbrev pub stands_at : ℕ → List ℕ → ℕ → Bool
@@ -54,23 +58,22 @@ sign_token b =
     cond (b == 40) (Some Open)
     (cond (b == 41) (Some Close)
     (cond (b == 124) (Some Bar)
-    (cond (b == 42) (Some Star)
-    (cond (b == 43) (Some Plus)
-    (cond (b == 63) (Some Query)
+    (cond (b == 42) (Some (Mark Star))
+    (cond (b == 43) (Some (Mark Plus))
+    (cond (b == 63) (Some (Mark Query))
     (cond (b == 46) (Some Dot) None))))))
 
 -- what a token is cut from
 pub data Lexeme (m : Mode) : Type 0 where
-  open_group close_group bar star plus query : Lexeme m
+  open_group close_group bar : Lexeme m
+  mark : tree.Mark → Lexeme m
   atom : Simple m → Lexeme m
 
 abbrev pub written_lexeme : (m : Mode) → Lexeme m → List ℕ
 written_lexeme m open_group = 40 ∷ []
 written_lexeme m close_group = 41 ∷ []
 written_lexeme m bar = 124 ∷ []
-written_lexeme m star = 42 ∷ []
-written_lexeme m plus = 43 ∷ []
-written_lexeme m query = 63 ∷ []
+written_lexeme m (mark k) = written_mark (mark_of k)
 written_lexeme m (atom s) = written_simple m s
 
 -- the token t is the lexeme at the place p
@@ -78,9 +81,7 @@ abbrev pub Stands : (m : Mode) → Lexeme m → ℕ → Token → Type 0
 Stands m open_group p t = t ≡ Open
 Stands m close_group p t = t ≡ Close
 Stands m bar p t = t ≡ Bar
-Stands m star p t = t ≡ Star
-Stands m plus p t = t ≡ Plus
-Stands m query p t = t ≡ Query
+Stands m (mark k) p t = t ≡ Mark k
 Stands m (atom dot) p t = t ≡ Dot
 Stands m (atom (unit a x)) p t = t ≡ Unit (code m x)
 Stands m (atom (set n xs)) p t = (r : Bor (List ℕ)) × (t ≡ Set n r p) × (r.now ≡ written_members m xs)
@@ -101,12 +102,10 @@ abbrev pub Short : Token → Type 0
 Short Open = Prim.Unit {0}
 Short Close = Prim.Unit {0}
 Short Bar = Prim.Unit {0}
-Short Star = Prim.Unit {0}
-Short Plus = Prim.Unit {0}
-Short Query = Prim.Unit {0}
+Short (Mark k) = Prim.Unit {0}
 Short Dot = Prim.Unit {0}
 Short (Unit c) = Prim.Unit {0}
-Short (Set n r p) = (length r.now ≤ 1024) × (p < 1024)
+Short (Set n r p) = (length r.now ≤ LONGEST) × (p < LONGEST)
 
 -- a token that was found ends within the bytes
 abbrev pub Ahead : List ℕ → ℕ → Result (Token × ℕ) Fault → Type 0

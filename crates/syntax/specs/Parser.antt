@@ -1,9 +1,11 @@
 -- What reading a part of an expression at a place gives, and what may stand behind it. Assumes nothing.
-use Rattle.std.specs.Prelude.{◌≡◌, ℕ, suc, ◌+◌, ◌<◌, ◌≤◌, max, Bool, true, false, not, ◌&&◌, ◌||◌, ◌⊎◌, List, [], ◌∷◌, length, Ok, Err, Result, ◌==◌, nat_lt, slice_index}
+use Rattle.std.specs.Prelude.{◌≡◌, ℕ, suc, ◌+◌, ◌<◌, ◌≤◌, max, Bool, true, false, not, ◌&&◌, ◌||◌, ◌⊎◌, List, [], ◌∷◌, length, Some, None, Ok, Err, Option, Result, ◌==◌, cond, nat_lt, option_and_then, slice_get, slice_index}
 use Rattle.refusal.specs.declared.Fault.{Fault}
 use Rattle.refusal.specs.declared.Fault.TheVariants.{Memory}
 use Rattle.syntax.specs.declared.mode.Mode.{Mode}
 use Rattle.syntax.specs.declared.tree.Node.{Node}
+use Rattle.syntax.specs.declared.tree.Mark as tree
+use Rattle.syntax.specs.declared.tree.Mark.TheVariants.{Star, Plus, Query}
 use Rattle.syntax.specs.Grammar.{Level, Tree, only, or, lone, row, marked, group, simple, written, meaning, spelled}
 use Rattle.syntax.specs.Tree.{language, spelling, exact}
 
@@ -44,6 +46,13 @@ Closes (b ∷ w) = b ≡ 41
 -- an item begins at the place p
 abbrev pub item_at : List ℕ → ℕ → Bool
 item_at w p = nat_lt p (length w) && not (slice_index w p == 124 || slice_index w p == 41)
+
+-- the mark at the place p, if there is one
+abbrev pub mark_of_byte : ℕ → Option tree.Mark
+mark_of_byte b = cond (b == 42) (Some Star) (cond (b == 43) (Some Plus) (cond (b == 63) (Some Query) None))
+
+abbrev pub mark_at : List ℕ → ℕ → Option tree.Mark
+mark_at w p = option_and_then mark_of_byte (slice_get w p)
 
 -- what was read ends within the bytes
 abbrev pub Forward : List ℕ → ℕ → Result (Node × ℕ) Fault → Type 0

@@ -3,8 +3,16 @@ use Rattle.std.specs.Prelude.{◌≡◌, ℕ, Bool, true, false, cond, not, ◌&
 use Rattle.regular.specs.Language.{Regex, one, join, either, star, plus, maybe}
 use Rattle.regular.specs.Positions.{some_below}
 use Rattle.syntax.specs.declared.tree.Node.{Node}
-use Rattle.syntax.specs.declared.tree.Node.TheVariants.{Atom, Group', Join', Either', Star', Plus', Maybe'}
-use Rattle.syntax.specs.Grammar.{Mark, repeated, letter, in_a_row, unless_marked}
+use Rattle.syntax.specs.declared.tree.Node.TheVariants.{Atom, Group', Join', Either', Marked'}
+use Rattle.syntax.specs.declared.tree.Mark as tree
+use Rattle.syntax.specs.declared.tree.Mark.TheVariants.{Star, Plus, Query}
+use Rattle.syntax.specs.Grammar.{Mark, any, some_times, perhaps, repeated, letter, in_a_row, unless_marked}
+
+-- a mark as the grammar has it
+abbrev pub mark_of : tree.Mark → Mark
+mark_of Star = any
+mark_of Plus = some_times
+mark_of Query = perhaps
 
 -- a group means what it holds
 abbrev pub language : Node → Regex
@@ -12,9 +20,7 @@ language (Atom a) = one (λ c. slice_index_or a.codes c false)
 language (Group' p a) = language a
 language (Join' p a q b) = join (language a) (language b)
 language (Either' p a q b) = either (language a) (language b)
-language (Star' p a) = star (language a)
-language (Plus' p a) = plus (language a)
-language (Maybe' p a) = maybe (language a)
+language (Marked' k p a) = repeated (mark_of k) (language a)
 
 -- the word that a tree spells, if it is made of atoms in a row that are each written as a value and no more
 abbrev pub spelling : Node → Option (List ℕ)
@@ -22,9 +28,7 @@ spelling (Atom a) = letter a.single
 spelling (Group' p a) = None
 spelling (Join' p a q b) = in_a_row (spelling a) (spelling b)
 spelling (Either' p a q b) = None
-spelling (Star' p a) = None
-spelling (Plus' p a) = None
-spelling (Maybe' p a) = None
+spelling (Marked' k p a) = None
 
 -- every set of an expression holds some code below 256
 unfoldable pub some_code : (ℕ → Bool) → Bool
@@ -55,9 +59,7 @@ exact (Atom a) = only_if a.single a.codes
 exact (Group' p a) = exact a
 exact (Join' p a q b) = exact a && exact b
 exact (Either' p a q b) = exact a && exact b
-exact (Star' p a) = exact a
-exact (Plus' p a) = exact a
-exact (Maybe' p a) = exact a
+exact (Marked' k p a) = exact a
 
 -- the tree e is built from others
 pub record Grouped (a e : Node) : Type 0 where

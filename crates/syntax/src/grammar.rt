@@ -4,6 +4,7 @@ ghost use Rattle.syntax.specs.Grammar.{special, Tree, expression, written};
 ghost use Rattle.syntax.specs.Automaton.{begins, closed, ends, final, finish, further, outside, sign, start, step};
 ghost use Rattle.syntax.specs.Reading.{Refusal};
 
+use crate::limits::LONGEST;
 use crate::mode::Mode;
 use refusal::Fault;
 
@@ -216,7 +217,7 @@ fn is_final(form: Form, depth: usize) -> bool
 
 // Whether the bytes are in the grammar; if not, how long the longest head of them is that begins an expression.
 pub(crate) fn check_grammar(mode: Mode, bytes: &[u8]) -> Result<(), Fault>
-    requires { length bytes.now ≤ 1024 }
+    requires { length bytes.now ≤ LONGEST }
     ensures { MatchResult result (λ _. (t : Tree mode expression) × (written t ≡ bytes.now)) (λ f. Refusal mode bytes.now f) }
 {
     let mut form = Form::Need;

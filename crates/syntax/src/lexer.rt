@@ -3,7 +3,9 @@ ghost use Rattle.std.specs.Prelude.{◌≡◌, ℕ, ◌+◌, ◌^◌, ◌<◌, �
 ghost use Rattle.syntax.specs.Grammar.{Members, set, caret, closing, written_simple};
 ghost use Rattle.syntax.specs.Lexer.{Ahead, Lexed, Lexeme, atom, sign_token, stands_at, unit_at, until, pair_at, value_at, written_lexeme};
 
+use crate::limits::LONGEST;
 use crate::mode::Mode;
+use crate::tree::Mark;
 use refusal::Fault;
 
 // A token; a set borrows its members out of the expression, and has its place.
@@ -12,9 +14,7 @@ pub enum Token<'a> {
     Open,
     Close,
     Bar,
-    Star,
-    Plus,
-    Query,
+    Mark(Mark),
     Dot,
     Unit(u8),
     Set {
@@ -110,9 +110,9 @@ fn sign_of(b: u8) -> Option<Token<'static>>
         b'(' => Some(Token::Open),
         b')' => Some(Token::Close),
         b'|' => Some(Token::Bar),
-        b'*' => Some(Token::Star),
-        b'+' => Some(Token::Plus),
-        b'?' => Some(Token::Query),
+        b'*' => Some(Token::Mark(Mark::Star)),
+        b'+' => Some(Token::Mark(Mark::Plus)),
+        b'?' => Some(Token::Mark(Mark::Query)),
         b'.' => Some(Token::Dot),
         _ => None,
     }
@@ -120,7 +120,7 @@ fn sign_of(b: u8) -> Option<Token<'static>>
 
 // Where the members of the set at a place begin.
 pub(crate) fn members_from(at: usize, negated: bool) -> usize
-    requires { at < 1024 }
+    requires { at < LONGEST }
     ensures { result ≡ at + 1 + length (caret negated) }
 {
     if negated { at + 2 } else { at + 1 }
@@ -128,7 +128,7 @@ pub(crate) fn members_from(at: usize, negated: bool) -> usize
 
 // The set at a place, and the place behind it.
 fn set_at<'a>(mode: Mode, bytes: &'a [u8], at: usize) -> Result<(Token<'a>, usize), Fault>
-    requires { (at < length bytes.now) × (length bytes.now ≤ 1024) }
+    requires { (at < length bytes.now) × (length bytes.now ≤ LONGEST) }
     ensures found { (n : Bool) (xs : Members mode) (w : List ℕ) → drop at bytes.now ≡ written_simple mode (set n xs) ++ w → Lexed mode (atom (set n xs)) at result }
     ensures ahead { Ahead bytes.now at result }
 {
@@ -156,7 +156,7 @@ pub(crate) fn token_at<'a>(
     bytes: &'a [u8],
     at: usize,
 ) -> Result<(Token<'a>, usize), Fault>
-    requires { length bytes.now ≤ 1024 }
+    requires { length bytes.now ≤ LONGEST }
     ensures found { (k : Lexeme mode) (w : List ℕ) → drop at bytes.now ≡ written_lexeme mode k ++ w → Lexed mode k at result }
     ensures ahead { Ahead bytes.now at result }
 {

@@ -14,6 +14,7 @@ mod parser;
 mod sets;
 mod tree;
 
+pub use limits::{DEEPEST, LONGEST, MOST_POSITIONS};
 pub use mode::Mode;
 pub use parser::parse;
-pub use tree::{Atom, Node};
+pub use tree::{Atom, Mark, Node};

@@ -9,6 +9,15 @@ use crate::mode::Mode;
 use crate::sets::{holds_nothing, reversed_in};
 use refusal::Fault;
 
+/// How many bytes an expression may have.
+pub const LONGEST: usize = 1024;
+
+/// How many positions an expression may have, one for each simple atom.
+pub const MOST_POSITIONS: usize = 63;
+
+/// How many groups may be open at once.
+pub const DEEPEST: usize = 16;
+
 // What was seen of an expression's tokens: how many groups are open, how many positions there are, and the first
 // place of a group that is too deep, of a range in reverse, of a set that holds nothing and of a position too many.
 #[derive(Clone, Copy)]
@@ -38,25 +47,25 @@ fn spot(is: bool, at: usize) -> Option<usize>
 
 // The findings with one token more.
 fn noted(mode: Mode, token: Token<'_>, at: usize, f: Findings) -> Findings
-    requires { (Short token) × ((f.depth ≤ 1024) × (f.positions ≤ 1024)) }
+    requires { (Short token) × ((f.depth ≤ LONGEST) × (f.positions ≤ LONGEST)) }
     ensures notes { (k : Lexeme mode) (done : List (Part mode)) → Stands mode k at token.entry → Noted mode f done → Noted mode result (done ++ part_of k f.depth at) × (result.depth ≡ depth_behind k f.depth) }
     ensures bound { (result.depth ≤ f.depth + 1) × (result.positions ≤ f.positions + 1) }
 {
     match token {
         Token::Open => {
             let depth = f.depth + 1;
-            let deep = earlier(f.deep, spot(depth > 16, at));
+            let deep = earlier(f.deep, spot(depth > DEEPEST, at));
             Findings { depth, deep, ..f }
         }
         Token::Close => Findings {
             depth: f.depth.saturating_sub(1),
             ..f
         },
-        Token::Bar | Token::Star | Token::Plus | Token::Query => f,
+        Token::Bar | Token::Mark(_) => f,
         _ => {
             let reversed = earlier(f.reversed, reversed_in(mode, token));
             let empty = earlier(f.empty, spot(holds_nothing(mode, token), at));
-            let over = earlier(f.over, spot(f.positions >= 63, at));
+            let over = earlier(f.over, spot(f.positions >= MOST_POSITIONS, at));
             Findings {
                 positions: f.positions + 1,
                 reversed,
@@ -89,7 +98,7 @@ fn verdict(f: Findings) -> Result<(), Fault>
 
 // Whether an expression keeps to the limits; its bytes are in the grammar.
 pub(crate) fn check_limits(mode: Mode, bytes: &[u8]) -> Result<(), Fault>
-    requires { length bytes.now ≤ 1024 }
+    requires { length bytes.now ≤ LONGEST }
     ensures { (t : Tree mode expression) → written t ≡ bytes.now → Checked t result }
 {
     let mut f = Findings {

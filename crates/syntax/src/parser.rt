@@ -1,15 +1,15 @@
 // Reads the tree, and puts the parts together.
-ghost use Rattle.std.specs.Prelude.{◌≡◌, ℕ, ◌≤◌, List, ◌++◌, length, drop};
+ghost use Rattle.std.specs.Prelude.{◌≡◌, ℕ, ◌<◌, ◌≤◌, List, ◌++◌, length, drop, IfSome};
 ghost use Rattle.syntax.specs.Grammar.{Tree, atom, branch, expression, item, written};
-ghost use Rattle.syntax.specs.Parser.{Closes, Forward, Got, Stops, Unmarked, item_at, nesting};
+ghost use Rattle.syntax.specs.Parser.{Closes, Forward, Got, Stops, Unmarked, item_at, mark_at, nesting};
 ghost use Rattle.syntax.specs.Reading.{Reads};
 
 use crate::grammar::check_grammar;
 use crate::lexer::{Token, stands, token_at};
-use crate::limits::check_limits;
+use crate::limits::{DEEPEST, LONGEST, check_limits};
 use crate::mode::Mode;
 use crate::sets::{bare_value, codes};
-use crate::tree::{Atom, Node, chosen, grouped, joined, plussed, queried, starred};
+use crate::tree::{Atom, Mark, Node, chosen, grouped, joined, marked};
 use refusal::Fault;
 use std::alloc::Global;
 
@@ -17,6 +17,18 @@ fn item_starts(bytes: &[u8], at: usize) -> bool
     ensures { result ≡ item_at bytes.now at }
 {
     at < bytes.len() && bytes[at] != b'|' && bytes[at] != b')'
+}
+
+fn mark_at(bytes: &[u8], at: usize) -> Option<Mark>
+    ensures value { result ≡ mark_at bytes.now at }
+    ensures within { IfSome result (λ _. at < length bytes.now) }
+{
+    match bytes.get(at) {
+        Some(b'*') => Some(Mark::Star),
+        Some(b'+') => Some(Mark::Plus),
+        Some(b'?') => Some(Mark::Query),
+        _ => None,
+    }
 }
 
 // An atom; `left` is how many groups may still be opened in one another.
@@ -28,7 +40,7 @@ fn read_atom(
     at: usize,
     left: usize,
 ) -> Result<(Node, usize), Fault>
-    requires { length bytes.now ≤ 1024 }
+    requires { length bytes.now ≤ LONGEST }
     ensures got { (t : Tree mode atom) (w : List ℕ) → drop at bytes.now ≡ written t ++ w → nesting t ≤ left → Got t at result }
     ensures ahead { Forward bytes.now at result }
 {
@@ -44,9 +56,7 @@ fn read_atom(
             }
             Ok((grouped(heap, inner)?, end + 1))
         }
-        Token::Close | Token::Bar | Token::Star | Token::Plus | Token::Query => {
-            Err(Fault::NotInGrammar { place: at })
-        }
+        Token::Close | Token::Bar | Token::Mark(_) => { Err(Fault::NotInGrammar { place: at }) }
         _ => {
             let codes = codes(mode, token);
             let single = bare_value(mode, token);
@@ -63,21 +73,15 @@ fn read_item(
     at: usize,
     left: usize,
 ) -> Result<(Node, usize), Fault>
-    requires { length bytes.now ≤ 1024 }
+    requires { length bytes.now ≤ LONGEST }
     ensures got { (t : Tree mode item) (w : List ℕ) → drop at bytes.now ≡ written t ++ w → Unmarked w → nesting t ≤ left → Got t at result }
     ensures ahead { Forward bytes.now at result }
 {
     let (atom, next) = read_atom(heap, mode, bytes, at, left)?;
-    if stands(b'*', bytes, next) {
-        return Ok((starred(heap, atom)?, next + 1));
+    match mark_at(bytes, next) {
+        Some(mark) => Ok((marked(heap, mark, atom)?, next + 1)),
+        None => Ok((atom, next)),
     }
-    if stands(b'+', bytes, next) {
-        return Ok((plussed(heap, atom)?, next + 1));
-    }
-    if stands(b'?', bytes, next) {
-        return Ok((queried(heap, atom)?, next + 1));
-    }
-    Ok((atom, next))
 }
 
 #[cycle(read_atom_read_branch_read_expression_read_item)]
@@ -88,7 +92,7 @@ fn read_branch(
     at: usize,
     left: usize,
 ) -> Result<(Node, usize), Fault>
-    requires { length bytes.now ≤ 1024 }
+    requires { length bytes.now ≤ LONGEST }
     ensures got { (t : Tree mode branch) (w : List ℕ) → drop at bytes.now ≡ written t ++ w → Stops w → nesting t ≤ left → Got t at result }
     ensures ahead { Forward bytes.now at result }
 {
@@ -109,7 +113,7 @@ fn read_expression(
     at: usize,
     left: usize,
 ) -> Result<(Node, usize), Fault>
-    requires { length bytes.now ≤ 1024 }
+    requires { length bytes.now ≤ LONGEST }
     ensures got { (t : Tree mode expression) (w : List ℕ) → drop at bytes.now ≡ written t ++ w → Closes w → nesting t ≤ left → Got t at result }
     ensures ahead { Forward bytes.now at result }
 {
@@ -127,11 +131,11 @@ fn read_expression(
 pub fn parse(heap: Global, mode: Mode, bytes: &[u8]) -> Result<Node, Fault>
     ensures { Reads mode bytes.now result }
 {
-    if bytes.len() > 1024 {
+    if bytes.len() > LONGEST {
         return Err(Fault::ExpressionTooLong);
     }
     check_grammar(mode, bytes)?;
     check_limits(mode, bytes)?;
-    let (tree, _end) = read_expression(heap, mode, bytes, 0, 16)?;
+    let (tree, _end) = read_expression(heap, mode, bytes, 0, DEEPEST)?;
     Ok(tree)
 }

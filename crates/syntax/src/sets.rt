@@ -6,11 +6,12 @@ ghost use Rattle.syntax.specs.Refusals.{first, reversed_members, reversed_simple
 ghost use Rattle.syntax.specs.Lexer.{Atomic, Short, Stands, Table, atom, member_at};
 
 use crate::lexer::{Token, members_from, read_value, stands};
+use crate::limits::LONGEST;
 use crate::mode::Mode;
 
 // The first and last code of the member at a place, and the place behind it.
 fn read_member(mode: Mode, bytes: &[u8], at: usize) -> Option<(u8, u8, usize)>
-    requires { (length bytes.now ≤ 1024) × (at < 2 ^ 32) }
+    requires { (length bytes.now ≤ LONGEST) × (at < 2 ^ 32) }
     ensures { result ≡ member_at mode bytes.now at }
 {
     match read_value(mode, bytes, at) {
@@ -44,7 +45,7 @@ fn is_between(low: u8, code: u8, high: u8) -> bool
 }
 
 fn in_members(mode: Mode, members: &[u8], code: u8) -> bool
-    requires { length members.now ≤ 1024 }
+    requires { length members.now ≤ LONGEST }
     ensures { (xs : Members mode) → members.now ≡ written_members mode xs → result ≡ in_members mode xs code }
 {
     let mut at = 0;
@@ -59,7 +60,7 @@ fn in_members(mode: Mode, members: &[u8], code: u8) -> bool
 
 // The place of the first range whose second end is below its first; the members begin at `from`.
 fn first_reversed(mode: Mode, members: &[u8], from: usize) -> Option<usize>
-    requires { (length members.now ≤ 1024) × (from ≤ 2048) }
+    requires { (length members.now ≤ LONGEST) × (from ≤ LONGEST + 1) }
     ensures { (xs : Members mode) → members.now ≡ written_members mode xs → result ≡ first (reversed_members mode xs from) }
 {
     let mut at = 0;
@@ -134,7 +135,7 @@ pub(crate) fn holds_nothing(mode: Mode, token: Token<'_>) -> bool
 
 // The value that the members of a set are, where they are one value and the set is not negated.
 fn bare_member(mode: Mode, negated: bool, members: &[u8]) -> Option<u8>
-    requires { length members.now ≤ 1024 }
+    requires { length members.now ≤ LONGEST }
     ensures { (xs : Members mode) → members.now ≡ written_members mode xs → result ≡ bare_set mode negated xs }
 {
     match mode {

@@ -1,8 +1,7 @@
 // The tree of an expression.
 ghost use Rattle.std.specs.Prelude.{◌≡◌, MatchResult};
 ghost use Rattle.refusal.specs.declared.Fault.TheVariants.{Memory};
-ghost use Rattle.syntax.specs.Grammar.{any, some_times, perhaps};
-ghost use Rattle.syntax.specs.Tree.{Chosen, Grouped, Joined, Repeated};
+ghost use Rattle.syntax.specs.Tree.{Chosen, Grouped, Joined, Repeated, mark_of};
 
 use refusal::Fault;
 use std::alloc::Global;
@@ -14,16 +13,22 @@ pub struct Atom {
     pub single: Option<u8>,
 }
 
-/// An expression's tree: `a|b*` is `Either` of an atom and a `Star`. A group keeps its brackets.
+/// What an atom may be followed by: `*`, `+` or `?`.
+#[derive(Clone, Copy, Debug, PartialEq, Eq)]
+pub enum Mark {
+    Star,
+    Plus,
+    Query,
+}
+
+/// An expression's tree: `a|b*` is `Either` of an atom and a `Marked` one. A group keeps its brackets.
 #[derive(Drop)]
 pub enum Node {
     Atom(Atom),
     Group(Box<Node>),
     Join(Box<Node>, Box<Node>),
     Either(Box<Node>, Box<Node>),
-    Star(Box<Node>),
-    Plus(Box<Node>),
-    Maybe(Box<Node>),
+    Marked(Mark, Box<Node>),
 }
 
 pub(crate) fn grouped(heap: Global, a: Node) -> Result<Node, Fault>
@@ -49,23 +54,9 @@ pub(crate) fn chosen(heap: Global, a: Node, b: Node) -> Result<Node, Fault>
     Ok(Node::Either(left, right))
 }
 
-pub(crate) fn starred(heap: Global, a: Node) -> Result<Node, Fault>
-    ensures { MatchResult result (λ e. Repeated any a e) (λ f. f ≡ Memory) }
+pub(crate) fn marked(heap: Global, mark: Mark, a: Node) -> Result<Node, Fault>
+    ensures { MatchResult result (λ e. Repeated (mark_of mark) a e) (λ f. f ≡ Memory) }
 {
     let inner = Box::new(heap, a)?;
-    Ok(Node::Star(inner))
-}
-
-pub(crate) fn plussed(heap: Global, a: Node) -> Result<Node, Fault>
-    ensures { MatchResult result (λ e. Repeated some_times a e) (λ f. f ≡ Memory) }
-{
-    let inner = Box::new(heap, a)?;
-    Ok(Node::Plus(inner))
-}
-
-pub(crate) fn queried(heap: Global, a: Node) -> Result<Node, Fault>
-    ensures { MatchResult result (λ e. Repeated perhaps a e) (λ f. f ≡ Memory) }
-{
-    let inner = Box::new(heap, a)?;
-    Ok(Node::Maybe(inner))
+    Ok(Node::Marked(mark, inner))
 }

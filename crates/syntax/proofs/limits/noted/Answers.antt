@@ -12,6 +12,6 @@ returns-in-Open c = record {
 
 pub returns-in_default : goal.returns-in_default
 returns-in_default c = record {
-  notes = notes_atom c.args.mode c.args.token c.args.at c.args.f _ (kind_rest c.args.token c.in_default.not-Open c.in_default.not-Close c.in_default.not-Bar c.in_default.not-Star c.in_default.not-Plus c.in_default.not-Query) (λ s done st n. noted_simple _ _ done n _ s _ _ refl (c.reversed_in.ensures s _ st) (c.holds_nothing.ensures s (_, st)) c.earlier-reversed.ensures (c.earlier-empty.ensures ∙ ap (earlier_of c.args.f.empty) c.spot-in_default.ensures) (c.earlier-over.ensures ∙ ap (earlier_of c.args.f.over) c.spot-in_default-2.ensures) refl) refl;
+  notes = notes_atom c.args.mode c.args.token c.args.at c.args.f _ (kind_rest c.args.token c.in_default.not-Open c.in_default.not-Close c.in_default.not-Bar c.in_default.not-Mark) (λ s done st n. noted_simple _ _ done n _ s _ _ refl (c.reversed_in.ensures s _ st) (c.holds_nothing.ensures s (_, st)) c.earlier-reversed.ensures (c.earlier-empty.ensures ∙ ap (earlier_of c.args.f.empty) c.spot-in_default.ensures) (c.earlier-over.ensures ∙ ap (earlier_of c.args.f.over) c.spot-in_default-2.ensures) refl) refl;
   bound = omega arith;
 }

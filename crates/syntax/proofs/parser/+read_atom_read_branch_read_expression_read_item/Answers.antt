@@ -1,9 +1,8 @@
 -- `read_atom`, `read_branch`, `read_expression` and `read_item` meet their contracts. Assumes nothing.
 use Rattle.std.proofs.Common.{◌+◌, Err, arith}
 use Rattle.std.proofs.lemmas.Result.{err_from_is_err_and}
-use Rattle.syntax.specs.Grammar.{branch, expression, item, once, any, some_times, perhaps}
-use Rattle.syntax.proofs.Atoms.{stands_in, atom_none, atom_deep, atom_lost, atom_open, atom_unclosed, atom_simple, atom_sign, item_lost, item_read, only_any, only_some, only_perhaps, only_once}
-use Rattle.syntax.proofs.Meant.{once_repeated}
+use Rattle.syntax.specs.Grammar.{branch, expression, item}
+use Rattle.syntax.proofs.Atoms.{stands_in, atom_none, atom_deep, atom_lost, atom_open, atom_unclosed, atom_simple, atom_sign, item_lost, item_marked, item_once}
 use Rattle.syntax.proofs.Chains.{start, lost, more, memory, end}
 use Rattle.syntax.proofs.Rows.{items, branches}
 use Rattle.syntax.proofs.parser.+read_atom_read_branch_read_expression_read_item.Goals as goal
@@ -83,26 +82,11 @@ read_item-returns-in_err-atom t c =
     let p = err_from_is_err_and c.from_residual.result c.from_residual.ensures.1 in
     rw (p.1, p.2) (record { got = item_lost c.args.mode c.args.bytes.now c.args.at c.args.left _ c.in_err-atom.ensures.got; ahead = tt })
 
-pub read_item-returns-then-stands : goal.read_item-returns-then-stands
-read_item-returns-then-stands t c = record {
-  got = item_read c.args.mode c.args.bytes.now c.args.at c.args.left _ _ c.in_ok-atom.next any (only_any c.args.mode c.args.bytes.now c.args.at c.args.left c.in_ok-atom.next c.if-stands.ensures) c.in_ok-atom.ensures.got c.in_ok-starred.ensures;
-  ahead = (omega (arith, c.in_ok-atom.ensures.ahead), omega (arith, stands_in c.args.bytes.now c.in_ok-atom.next 42 c.if-stands.ensures));
+pub read_item-returns-in_ok-marked-in-Some : goal.read_item-returns-in_ok-marked-in-Some
+read_item-returns-in_ok-marked-in-Some t c = record {
+  got = item_marked c.args.mode c.args.bytes.now c.args.at c.args.left _ _ c.in_ok-atom.next _ c.in-Some.ensures.value c.in_ok-atom.ensures.got c.in_ok-marked-in-Some.ensures;
+  ahead = (omega (arith, c.in_ok-atom.ensures.ahead), omega (arith, c.in-Some.ensures.within));
 }
 
-pub read_item-returns-then-stands-2 : goal.read_item-returns-then-stands-2
-read_item-returns-then-stands-2 t c = record {
-  got = item_read c.args.mode c.args.bytes.now c.args.at c.args.left _ _ c.in_ok-atom.next some_times (only_some c.args.mode c.args.bytes.now c.args.at c.args.left c.in_ok-atom.next c.if-stands-2.ensures) c.in_ok-atom.ensures.got c.in_ok-plussed.ensures;
-  ahead = (omega (arith, c.in_ok-atom.ensures.ahead), omega (arith, stands_in c.args.bytes.now c.in_ok-atom.next 43 c.if-stands-2.ensures));
-}
-
-pub read_item-returns-then-stands-3 : goal.read_item-returns-then-stands-3
-read_item-returns-then-stands-3 t c = record {
-  got = item_read c.args.mode c.args.bytes.now c.args.at c.args.left _ _ c.in_ok-atom.next perhaps (only_perhaps c.args.mode c.args.bytes.now c.args.at c.args.left c.in_ok-atom.next c.if-stands-3.ensures) c.in_ok-atom.ensures.got c.in_ok-queried.ensures;
-  ahead = (omega (arith, c.in_ok-atom.ensures.ahead), omega (arith, stands_in c.args.bytes.now c.in_ok-atom.next 63 c.if-stands-3.ensures));
-}
-
-pub read_item-returns : goal.read_item-returns
-read_item-returns t c = record {
-  got = λ i v e u n. let h = item_read c.args.mode c.args.bytes.now c.args.at c.args.left _ _ c.in_ok-atom.next once (only_once c.args.mode c.args.bytes.now c.args.at c.args.left c.in_ok-atom.next c.if-stands.ensures c.if-stands-2.ensures c.if-stands-3.ensures) c.in_ok-atom.ensures.got (once_repeated _) i v e u n in (h.0, omega (arith, h.1));
-  ahead = c.in_ok-atom.ensures.ahead;
-}
+pub read_item-returns-in-None : goal.read_item-returns-in-None
+read_item-returns-in-None t c = record { got = item_once c.args.mode c.args.bytes.now c.args.at c.args.left _ c.in_ok-atom.next c.in-None.ensures.value c.in_ok-atom.ensures.got; ahead = c.in_ok-atom.ensures.ahead }
