@@ -5,10 +5,9 @@
 
 mod texts;
 
-use anyhow::anyhow;
 use engine::Engine;
 use expression::{Expression, Mode, read};
-use finder::{Listing, list_all};
+use finder::list_all;
 use refusal::Fault;
 use single::SingleStep;
 use std::alloc::Global;
@@ -34,25 +33,11 @@ const EXPRESSIONS: [&str; 5] = [
     "[^\\n]*7",
 ];
 
-fn accepted(heap: Global, expression: &str) -> anyhow::Result<Expression> {
-    match read(heap, Mode::Bytes, expression.as_bytes()) {
-        Ok(found) => Ok(found),
-        Err(_) => Err(anyhow!("the expression is refused")),
-    }
-}
+// As many entries as matches can end at one place of the longest text.
+const ROOM: usize = 65_536;
 
-fn built<T>(made: Result<T, Fault>) -> anyhow::Result<T> {
-    match made {
-        Ok(engine) => Ok(engine),
-        Err(_) => Err(anyhow!("no memory for the engine")),
-    }
-}
-
-fn list<E: Engine>(heap: Global, engine: &E, text: &[u8]) -> anyhow::Result<Listing> {
-    match list_all(heap, text, engine, 65536) {
-        Ok(listing) => Ok(listing),
-        Err(_) => Err(anyhow!("the text is refused")),
-    }
+fn accepted(heap: Global, expression: &str) -> Result<Expression, Fault> {
+    read(heap, Mode::Bytes, expression.as_bytes())
 }
 
 fn time<E: Engine>(
@@ -61,10 +46,10 @@ fn time<E: Engine>(
     text: &[u8],
     rounds: u32,
 ) -> anyhow::Result<Timing> {
-    let first = list(rt.alloc(), engine, text)?;
+    let first = list_all(rt.alloc(), text, engine, ROOM)?;
     let start = Instant::now(rt)?;
     for _ in 0..rounds {
-        let _again = list(rt.alloc(), engine, text)?;
+        let _again = list_all(rt.alloc(), text, engine, ROOM)?;
     }
     let micros = u64::try_from(start.elapsed(rt)?.as_micros())?;
     Ok(Timing {
@@ -100,10 +85,10 @@ fn compare(rt: &HostRuntime, expression: &str, text: &[u8], rounds: u32) -> anyh
     let heap = rt.alloc();
     println!(rt; "{expression}")?;
     let symbols = (text.len() as u64).saturating_mul(rounds as u64);
-    let single = built(SingleStep::new(heap, accepted(heap, expression)?))?;
+    let single = SingleStep::new(heap, accepted(heap, expression)?)?;
     let base = time(rt, &single, text, rounds)?;
     print_row(rt, "single", symbols, base, base)?;
-    let tabled = built(Tabled::new(heap, accepted(heap, expression)?))?;
+    let tabled = Tabled::new(heap, accepted(heap, expression)?)?;
     let row = time(rt, &tabled, text, rounds)?;
     print_row(rt, "tabled", symbols, row, base)?;
     if let Ok(word) = Word::new(heap, accepted(heap, expression)?) {

@@ -4,7 +4,7 @@
 
 mod table;
 
-use anyhow::anyhow;
+use anyhow::Context;
 use expression::{Mode, read};
 use std::alloc::{AllocError, Global};
 use table::{NUMBERED, REPEATED, WRITTEN};
@@ -12,28 +12,13 @@ use table::{NUMBERED, REPEATED, WRITTEN};
 // What the bytes come to, as the program `parse` prints it.
 fn outcome(heap: Global, mode: Mode, bytes: &[u8]) -> Result<String, AllocError> {
     match read(heap, mode, bytes) {
-        Ok(expression) => {
-            let (positions, shortest) = (expression.positions(), expression.shortest());
-            format!(in heap; "positions {positions} shortest {shortest}")
-        }
+        Ok(expression) => format!(in heap; "{expression}"),
         Err(fault) => format!(in heap; "{fault}"),
     }
 }
 
-fn mode_named(name: &str) -> Mode {
-    if name == "field" {
-        Mode::Fields
-    } else {
-        Mode::Bytes
-    }
-}
-
-// How the expressions of a table are given.
-#[derive(Clone, Copy)]
-enum Notation {
-    Written,
-    Repeated,
-    Numbered,
+fn written(heap: Global, expression: &str) -> anyhow::Result<Vec<u8>> {
+    Ok(Vec::from_slice(heap, expression.as_bytes())?)
 }
 
 fn add(bytes: &mut Vec<u8>, piece: &[u8], times: u16) -> Result<(), AllocError> {
@@ -66,33 +51,31 @@ fn numbered(heap: Global, numbers: &str) -> anyhow::Result<Vec<u8>> {
     Ok(bytes)
 }
 
-fn bytes_of(heap: Global, notation: Notation, expression: &str) -> anyhow::Result<Vec<u8>> {
-    match notation {
-        Notation::Written => Ok(Vec::from_slice(heap, expression.as_bytes())?),
-        Notation::Repeated => repeated(heap, expression),
-        Notation::Numbered => numbered(heap, expression),
-    }
-}
-
 // A line of a table: the mode, the expression, `=>` and the outcome.
-fn parts(line: &str) -> anyhow::Result<(&str, &str, &str)> {
-    let Some((name, rest)) = line.split_once(' ') else {
-        return Err(anyhow!("a line of the table has no blank"));
-    };
-    let Some((expression, expected)) = rest.split_once(" => ") else {
-        return Err(anyhow!("a line of the table has no outcome"));
-    };
-    Ok((name, expression, expected))
+fn parts(line: &str) -> anyhow::Result<(Mode, &str, &str)> {
+    let (name, rest) = line
+        .split_once(' ')
+        .context("a line of the table has no blank")?;
+    let (expression, expected) = rest
+        .split_once(" => ")
+        .context("a line of the table has no outcome")?;
+    Ok((name.parse()?, expression, expected))
 }
 
-// How many lines of a table agree; the others are printed with what they come to.
-fn compare(rt: &HostRuntime, notation: Notation, table: &str) -> anyhow::Result<usize> {
+// How many lines of a table agree, whose expressions `bytes_of` reads; the others are printed with what they come to.
+fn compare<F: Fn(Global, &str) -> anyhow::Result<Vec<u8>>>(
+    rt: &HostRuntime,
+    bytes_of: F,
+    table: &str,
+) -> anyhow::Result<usize>
+    requires { F.IsAlwaysCallable bytes_of }
+{
     let heap = rt.alloc();
     let mut agree: usize = 0;
     for line in table.lines() {
-        let (name, expression, expected) = parts(line)?;
-        let bytes = bytes_of(heap, notation, expression)?;
-        let told = outcome(heap, mode_named(name), &bytes)?;
+        let (mode, expression, expected) = parts(line)?;
+        let bytes = bytes_of(heap, expression)?;
+        let told = outcome(heap, mode, &bytes)?;
         if told.as_str() == expected {
             agree = agree.saturating_add(1);
         } else {
@@ -102,15 +85,10 @@ fn compare(rt: &HostRuntime, notation: Notation, table: &str) -> anyhow::Result<
     Ok(agree)
 }
 
-fn run(rt: &HostRuntime) -> anyhow::Result<()> {
-    let written = compare(rt, Notation::Written, WRITTEN)?;
-    let repeated = compare(rt, Notation::Repeated, REPEATED)?;
-    let numbered = compare(rt, Notation::Numbered, NUMBERED)?;
-    let agree = written.saturating_add(repeated).saturating_add(numbered);
+fn main(rt: HostRuntime) -> anyhow::Result<()> {
+    let agree = compare(&rt, written, WRITTEN)?
+        .saturating_add(compare(&rt, repeated, REPEATED)?)
+        .saturating_add(compare(&rt, numbered, NUMBERED)?);
     println!(rt; "{agree} cases agree")?;
     Ok(())
-}
-
-fn main(rt: HostRuntime) -> anyhow::Result<()> {
-    run(&rt)
 }

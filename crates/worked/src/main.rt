@@ -9,22 +9,16 @@ use calling::answer;
 use scripts::next_script;
 use std::io::Read;
 
-fn run(rt: &HostRuntime) -> anyhow::Result<()> {
+fn main(rt: HostRuntime) -> anyhow::Result<()> {
     let mut bytes = Vec::new(rt.alloc());
     rt.stdin().read_to_end(&mut bytes)?;
     let mut rest = bytes.as_slice();
-    for number in 0..bytes.len() {
-        let Some((script, behind)) = next_script(rest) else {
-            break;
-        };
-        let case = number + 1;
+    let mut case: usize = 1;
+    while let Some((script, behind)) = next_script(rest) {
         println!(rt; "case {case}")?;
-        answer(rt, script)?;
+        answer(&rt, script)?;
         rest = behind;
+        case = case.saturating_add(1);
     }
-    fields::run(rt)
-}
-
-fn main(rt: HostRuntime) -> anyhow::Result<()> {
-    run(&rt)
+    fields::run(&rt)
 }
