@@ -1,3 +1,4 @@
 pub mod Least
 pub mod Gathered
 pub mod Only
+pub mod Unions
