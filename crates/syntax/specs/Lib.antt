@@ -1,4 +1,5 @@
 pub mod Grammar
+pub mod Names
 pub mod Refusals
 pub mod Tree
 pub mod Reading

@@ -9,7 +9,7 @@ use crate::mode::Mode;
 use refusal::Fault;
 
 // What was read last: nothing that an item needs, an atom, an atom and its mark, or part of an atom.
-#[derive(Clone, Copy)]
+#[derive(Clone, Copy, Debug, PartialEq, Eq)]
 pub enum Form {
     Need,
     Atom,
@@ -25,7 +25,7 @@ pub enum Form {
 }
 
 // Whether a byte begins a value, and whether it is all of it.
-#[derive(Clone, Copy)]
+#[derive(Clone, Copy, Debug, PartialEq, Eq)]
 pub enum Begun {
     Not,
     Part,

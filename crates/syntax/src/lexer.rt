@@ -9,7 +9,7 @@ use crate::tree::Mark;
 use refusal::Fault;
 
 // A token; a set borrows its members out of the expression, and has its place.
-#[derive(Clone, Copy)]
+#[derive(Clone, Copy, Debug, PartialEq, Eq)]
 pub enum Token<'a> {
     Open,
     Close,

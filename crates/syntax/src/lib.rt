@@ -15,6 +15,6 @@ mod sets;
 mod tree;
 
 pub use limits::{DEEPEST, LONGEST, MOST_POSITIONS};
-pub use mode::Mode;
+pub use mode::{Mode, UnknownMode};
 pub use parser::parse;
 pub use tree::{Atom, Mark, Node};

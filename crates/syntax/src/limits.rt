@@ -20,7 +20,7 @@ pub const DEEPEST: usize = 16;
 
 // What was seen of an expression's tokens: how many groups are open, how many positions there are, and the first
 // place of a group that is too deep, of a range in reverse, of a set that holds nothing and of a position too many.
-#[derive(Clone, Copy)]
+#[derive(Clone, Copy, Debug, PartialEq, Eq)]
 pub struct Findings {
     depth: usize,
     positions: usize,

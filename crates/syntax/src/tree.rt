@@ -7,7 +7,7 @@ use refusal::Fault;
 use std::alloc::Global;
 
 /// A simple atom: the codes that it holds, and its one value where it is written as a value and no more, as `a` or `<01>`.
-#[derive(Clone, Copy)]
+#[derive(Clone, Copy, Debug, PartialEq, Eq)]
 pub struct Atom {
     pub codes: [bool; 256],
     pub single: Option<u8>,
@@ -22,7 +22,7 @@ pub enum Mark {
 }
 
 /// An expression's tree: `a|b*` is `Either` of an atom and a `Marked` one. A group keeps its brackets.
-#[derive(Drop)]
+#[derive(Debug, PartialEq, Eq, Drop)]
 pub enum Node {
     Atom(Atom),
     Group(Box<Node>),
