@@ -7,6 +7,7 @@
 
 mod expression;
 mod outline;
+mod printing;
 mod reader;
 
 pub use expression::Expression;
