@@ -1,7 +1,9 @@
-// Makes the calls of a script, and prints what they answer.
+// Makes the calls of a script, and tells what they come to.
 
 #![tactic(auto)]
 
 mod printing;
+mod telling;
 
 pub use printing::answer;
+pub use telling::told;
