@@ -1,15 +1,17 @@
 -- How the list grows, run by run and clear by clear, until it is whole. Assumes nothing.
 use Rattle.std.proofs.Common.{◌≡◌, ℕ, zero, suc, ◌+◌, ◌-◌, ◌*◌, ◌^◌, ◌<◌, ◌≤◌, Bool, true, false, cond, eqb, List, [], ◌++◌, length, take, sym, refl, ap, ◌∙◌, subst, subst₂, ⊎_elim, arith, length-take}
-use Rattle.std.proofs.lemmas.Bool.{cases_Bool, cond_both, cond-true, cond-false, ltb-true, ltb-false, or_parts, or_cases, false≢true}
+use denote.Enum.Bare.{sameb}
+use Rattle.std.proofs.lemmas.Bool.{cond_both, cond-false, ltb-true, ltb-false, or_parts, or_cases, false≢true}
 use Rattle.refusal.specs.declared.Fault.{Fault}
 use Rattle.refusal.specs.declared.Fault.TheVariants.{NoRoom}
 use Rattle.regular.specs.Language.{Regex, Inhabited}
 use Rattle.regular.specs.Jumps.{Skips}
 use Rattle.regular.specs.Matches.{ending, listed, Exactly}
 use Rattle.regular.proofs.Endings.{listed_on, listed_exactly}
-use Rattle.search.specs.Rules.{finished, crowded, onward, reading, why}
+use Rattle.search.specs.Rules.{finished, crowded, onward, reading}
 use Rattle.search.specs.Calls.{fresh, stepped, held, ran, Stepped, Held, RanBy}
 use Rattle.search.specs.declared.numbers.Numbers.{Numbers}
+use Rattle.search.specs.contracts.numbers.Stop.{the_type}
 use Rattle.search.specs.declared.numbers.Stop.{Stop}
 use Rattle.search.proofs.Moving.{Kept, kept_fresh, kept_step, kept_ran, ran_from, ran_on, forward, listed_step}
 use Rattle.finder.specs.Listing.{Goes, here, on, NotListed, narrow}
@@ -114,51 +116,50 @@ module _ (r : Regex) (h : List ℕ → ℕ) (t : List ℕ) where
       (⊎_elim (λ e. absurd (false≢true (sym going ∙ e))) (λ e. omega (arith, ltb-true (length table - 0) count e)) (or_cases (finished t p) (crowded r t (length table - 0) p) by.due)))
 
 -- why a run ended tells whether the text is done
-module _ (t : List ℕ) (budget next done : ℕ) {stop : Stop} (is : stop ≡ why t budget next done) where
-  ended : stop ≡ Stop.Finished → finished t next ≡ true
-  ended e = ⊎_elim (λ f. f) (λ f. absurd (no_finish (eqb done budget) (sym e ∙ is ∙ cond-false (finished t next) Stop.Finished _ f))) (cases_Bool (finished t next))
-    where
-      no_finish : (b : Bool) → Stop.Finished ≡ cond b Stop.Budget Stop.Room → ⊥
-      no_finish true e = let z : ◌≡◌ {A = ℕ} 0 1 = cc in omega arith
-      no_finish false e = let z : ◌≡◌ {A = ℕ} 0 1 = cc in omega arith
+tells_finished : (f e : Bool) → sameb the_type (cond f Stop.Finished (cond e Stop.Budget Stop.Room)) Stop.Finished ≡ f
+tells_finished true e = refl
+tells_finished false true = refl
+tells_finished false false = refl
 
-  not_ended : (stop ≡ Stop.Finished → ⊥) → finished t next ≡ false
-  not_ended other = ⊎_elim (λ f. absurd (other (is ∙ cond-true (finished t next) Stop.Finished _ f))) (λ f. f) (cases_Bool (finished t next))
+module _ (r : Regex) (h : List ℕ → ℕ) (t : List ℕ) where
+  -- a run led from k to j, and what it found is still to be taken over
+  pub record Turned (k j : Numbers) (table found : List (ℕ × ℕ)) (walks reads : ℕ) (stop : Stop) : Type 0 where
+    pub going : Going r h t j table found walks reads
+    pub far : k.next ≤ j.next
+    pub ends : sameb the_type stop Stop.Finished ≡ finished t j.next
 
--- a turn of the loop: a run, after which the numbers j are read and the part `more` of the table is taken over; the search has the text t' still
-module _ (r : Regex) (h : List ℕ → ℕ) (t : List ℕ) (i : Inhabited r) (skips : Skips r h) {t' : List ℕ} (same : t' ≡ t)
-    {k k' j : Numbers} {table table' found : List (ℕ × ℕ)} {w n budget done : ℕ} {stop : Stop}
-    (read : j ≡ k') (going : Going r h t k table found w n) (by : RanBy r h t' k k' table table' budget done stop) where
-  pub after_run : Going r h t j table' found w n
-  after_run = subst (λ x. Going r h t x table' found w n) (sym read) (going_run r h t going i skips (subst (λ x. RanBy r h x k k' table table' budget done stop) same by))
+  pub turned : Inhabited r → Skips r h → {t' : List ℕ} → t' ≡ t → {k k' j : Numbers} {table table' found : List (ℕ × ℕ)} {w n budget done : ℕ} {stop : Stop} → j ≡ k' → Going r h t k table found w n → RanBy r h t' k k' table table' budget done stop → Turned k j table' found w n stop
+  turned i skips {t'} same {k} {k'} {j} {table} {table'} {found} {w} {n} {budget} {done} {stop} read going ran_by =
+      let by = subst (λ x. RanBy r h x k k' table table' budget done stop) same ran_by in
+      record {
+        going = subst (λ x. Going r h t x table' found w n) (sym read) (going_run r h t going i skips by);
+        far = omega (arith, ap (λ x. x.next) read, ap (λ x. x.next) by.after, ran_on r i h skips t (length table) budget k);
+        ends =
+            ap (λ x. sameb the_type x Stop.Finished) by.stop_is
+            ∙ tells_finished (finished t k'.next) (eqb done budget)
+            ∙ ap (λ x. finished t x.next) (sym read);
+      }
 
-  pub run_ended : stop ≡ Stop.Finished → finished t j.next ≡ true
-  run_ended e = subst (λ x. finished t x.next ≡ true) (sym read) (ended t budget k'.next done (subst (λ x. stop ≡ why x budget k'.next done) same by.stop_is) e)
+  -- the part of the table that is filled is taken over; then the list is whole, or the table is cleared and one step made
+  module _ {k j : Numbers} {table found : List (ℕ × ℕ)} {w n : ℕ} {stop : Stop} (turn : Turned k j table found w n stop) (b : Bool) (eq : b ≡ sameb the_type stop Stop.Finished) where
+    pub all_found : {found' : List (ℕ × ℕ)} {walks reads : ℕ} → b ≡ true → found' ≡ found ++ take j.filled table → walks ≡ w + j.walks → reads ≡ n + j.reads → Exactly r t 0 (length t + 1) found' × Goes r h t 0 (length t + 1) walks reads
+    all_found is grown walked read =
+        let done = sym (eq ∙ turn.ends) ∙ is in
+        (subst (Exactly r t 0 (length t + 1)) (sym grown) (whole_list r h t turn.going done), subst₂ (Goes r h t 0 (length t + 1)) (sym walked) (sym read) (whole_way r h t turn.going done))
 
-  pub run_goes_on : (stop ≡ Stop.Finished → ⊥) → finished t j.next ≡ false
-  run_goes_on e = subst (λ x. finished t x.next ≡ false) (sym read) (not_ended t budget k'.next done (subst (λ x. stop ≡ why x budget k'.next done) same by.stop_is) e)
+    module _ (no : b ≡ false) {t' : List ℕ} {l l' : Numbers} {table' : List (ℕ × ℕ)} (same : t' ≡ t) (cleared : l ≡ fresh j.next) where
+      pub stepped_on : {found' : List (ℕ × ℕ)} {walks reads count : ℕ} → Inhabited r → Skips r h → found' ≡ found ++ take j.filled table → walks ≡ w + j.walks → reads ≡ n + j.reads → j.walks < 2 ^ 32 → j.reads < 2 ^ 32 → Stepped r h t' l l' table table' count
+          → Going r h t l' table' found' walks reads × (k.next < l'.next) × (l'.next ≤ length t + 1)
+      stepped_on {found'} {walks} {reads} {count} i skips grown walked read few some step =
+          let by = subst₂ (λ x y. Stepped r h x y l' table table' count) same cleared step in
+          let on = forward r i h skips t j.next by.going in
+          let after = ap (λ x. x.next) by.after in (
+            subst (λ x. Going r h t l' table' x walks reads) (sym grown) (subst₂ (Going r h t l' table' (found ++ take j.filled table)) (sym walked) (sym read) (going_on r h t turn.going i skips few some by)),
+            omega (arith, turn.far, on.0, after),
+            omega (arith, on.1, after),
+          )
 
-  module _ {found' more : List (ℕ × ℕ)} (grown : found' ≡ found ++ more) (is : more ≡ take j.filled table') where
-    pub list_done : stop ≡ Stop.Finished → Exactly r t 0 (length t + 1) found'
-    list_done e = subst (Exactly r t 0 (length t + 1)) (sym (grown ∙ ap (λ l. found ++ l) is)) (whole_list r h t after_run (run_ended e))
-
-    pub after_step : {t'' : List ℕ} {l l' : Numbers} {table'' : List (ℕ × ℕ)} {count : ℕ} → t'' ≡ t → l ≡ fresh j.next → j.walks < 2 ^ 32 → j.reads < 2 ^ 32 → Stepped r h t'' l l' table' table'' count → Going r h t l' table'' found' (w + j.walks) (n + j.reads)
-    after_step {t''} {l} {l'} {table''} {count} kept cleared few some step =
-        subst (λ x. Going r h t l' table'' x (w + j.walks) (n + j.reads)) (sym (grown ∙ ap (λ l. found ++ l) is))
-        (going_on r h t after_run i skips few some (subst (λ x. Stepped r h t x l' table' table'' count) cleared (subst (λ x. Stepped r h x l l' table' table'' count) kept step)))
-
-  pub way_done : stop ≡ Stop.Finished → Goes r h t 0 (length t + 1) (w + j.walks) (n + j.reads)
-  way_done e = whole_way r h t after_run (run_ended e)
-
-  pub step_refused : {t'' : List ℕ} {l l' : Numbers} {table'' : List (ℕ × ℕ)} {f : Fault} → t'' ≡ t → l ≡ fresh j.next → (stop ≡ Stop.Finished → ⊥) → Held r h t'' l l' table' table'' f → NotListed r h t (length table') f
-  step_refused {t''} {l} {l'} {table''} {f} kept cleared e held =
-      refused_narrow r h t j.next (run_goes_on e) (subst (λ x. Held r h t x l' table' table'' f) cleared (subst (λ x. Held r h x l l' table' table'' f) kept held))
-
-  -- the next place lies further on
-  pub step_on : {t'' : List ℕ} {l l' : Numbers} {table'' : List (ℕ × ℕ)} {count : ℕ} → t'' ≡ t → l ≡ fresh j.next → (stop ≡ Stop.Finished → ⊥) → Stepped r h t'' l l' table' table'' count → (k.next < l'.next) × (l'.next ≤ length t + 1)
-  step_on {t''} {l} {l'} {table''} {count} kept cleared e step =
-      let after = ap (λ x. x.next) (subst (λ x. l' ≡ stepped r t h x) cleared (subst (λ x. l' ≡ stepped r x h l) kept step.after)) in
-      let on = forward r i h skips t j.next (run_goes_on e) in
-      let ran = ap (λ x. x.next) (subst (λ x. k' ≡ ran r x (length table) h budget k) same by.after) in
-      let far = ran_on r i h skips t (length table) budget k in
-      (omega (arith, after, on.0, ap (λ x. x.next) read, ran, far), omega (arith, after, on.1))
+      pub refused_step : {f : Fault} (size : ℕ) → length table ≡ size → Held r h t' l l' table table' f → NotListed r h t size f
+      refused_step {f} size long refused =
+          subst (λ m. NotListed r h t m f) long
+          (refused_narrow r h t j.next (sym (eq ∙ turn.ends) ∙ no) (subst₂ (λ x y. Held r h x y l' table table' f) same cleared refused))

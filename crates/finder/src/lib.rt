@@ -2,20 +2,37 @@
 
 #![tactic(auto)]
 
-ghost use Rattle.std.specs.Prelude.{map, length};
+ghost use Rattle.std.specs.Prelude.{map, length, Some};
 ghost use Rattle.finder.specs.Listing.{Lists};
+ghost use Rattle.finder.specs.Messages.{listing_text};
 
 use engine::{Engine, Symbol};
 use refusal::Fault;
 use search::{Match, Search, Stop};
 use std::alloc::Global;
+use std::fmt;
 
 /// Every match of a text in the table's order, and what finding them took, summed over all clears.
-#[derive(Drop)]
+#[derive(Debug, Drop, PartialEq, Eq)]
 pub struct Listing {
     pub matches: Vec<Match>,
     pub walks: u64,
     pub reads: u64,
+}
+
+/// A line `start end` for each match, and then `matches 2 walks 7 reads 12`.
+impl fmt::Display for Listing {
+    ghost output = { λ listing. Some (listing_text listing) };
+
+    fn fmt<W: fmt::Write>(&self, f: &mut fmt::Formatter<W>) -> fmt::Result {
+        for &(start, end) in &self.matches {
+            writeln!(f, "{start} {end}")?;
+        }
+        let count = self.matches.len();
+        let walks = self.walks;
+        let reads = self.reads;
+        write!(f, "matches {count} walks {walks} reads {reads}")
+    }
 }
 
 /// Lists all matches of the engine's expression in the text, through a table with room for so many at a time.
@@ -43,15 +60,15 @@ fn list_through<S: Symbol, E: Engine>(
 {
     let mut search = Search::open(text)?;
     let mut matches = Vec::new(heap);
-    let mut walks: u64 = 0;
-    let mut reads: u64 = 0;
+    let mut walks = 0;
+    let mut reads = 0;
     loop {
         let (_, stop) = search.run(engine, table, u32::MAX);
         let numbers = search.numbers();
-        matches.extend_from_slice(&table[0..numbers.filled as usize])?;
-        walks += numbers.walks as u64;
-        reads += numbers.reads as u64;
-        if let Stop::Finished = stop {
+        matches.extend_from_slice(&table[..numbers.filled as usize])?;
+        walks += u64::from(numbers.walks);
+        reads += u64::from(numbers.reads);
+        if stop == Stop::Finished {
             return Ok(Listing {
                 matches,
                 walks,

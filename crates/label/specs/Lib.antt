@@ -1,2 +1,3 @@
 pub mod Labels
 pub mod Reading
+pub mod Messages

@@ -2,13 +2,26 @@
 
 #![tactic(auto)]
 
-ghost use Rattle.std.specs.Prelude.{◌≡◌, ℕ, ◌+◌, ◌*◌, ◌<◌, ◌≤◌, length, take, drop, MatchResult, slice_index_or};
-ghost use Rattle.label.specs.Labels.{field, entry, count, lies_within, Headed, Sound};
-ghost use Rattle.label.specs.Reading.{Refused, Unsound, Reads};
+mod header;
 
+ghost use Rattle.std.specs.Prelude.{◌≡◌, ◌++◌, Some, codes, decimal};
+ghost use Rattle.label.specs.Labels.{field, lies_within};
+ghost use Rattle.label.specs.Messages.{field_text};
+ghost use Rattle.label.specs.Reading.{Reads};
+
+use crate::header::Header;
 use engine::Symbol;
 use refusal::Fault;
 use std::fmt;
+
+/// The edition of the labels that are read, their first byte.
+pub const EDITION: u8 = 3;
+
+/// The most entries that a label may count.
+pub const MOST_ENTRIES: u8 = 32;
+
+/// The highest identifier that a field may have.
+pub const HIGHEST_IDENTIFIER: u8 = 99;
 
 /// What an entry of a label says: the field's identifier, and where its bytes lie in the label.
 #[derive(Clone, Copy, Debug, PartialEq, Eq)]
@@ -16,6 +29,29 @@ pub struct Field {
     pub identifier: u8,
     pub offset: u16,
     pub length: u8,
+}
+
+impl Field {
+    // Whether the field's bytes lie between the header's end and the label's.
+    fn is_within(&self, header_end: usize, label_end: usize) -> bool
+        ensures { result ≡ lies_within self.now header_end label_end }
+    {
+        let start = usize::from(self.offset);
+        header_end <= start && start + usize::from(self.length) <= label_end
+    }
+}
+
+/// The four bytes of an entry: the identifier, the length, and the offset, high byte first.
+impl From<[u8; 4]> for Field {
+    ghost from_gives = { λ bytes f. f ≡ field bytes };
+
+    fn from([identifier, length, high, low]: [u8; 4]) -> Field {
+        Field {
+            identifier,
+            offset: u16::from_be_bytes([high, low]),
+            length,
+        }
+    }
 }
 
 /// A field's code is its identifier, so that labels are searched like notes.
@@ -29,6 +65,8 @@ impl Symbol for Field {
 
 /// The identifier, the offset and the length, with blanks between: `10 6 2`.
 impl fmt::Display for Field {
+    ghost output = { λ f. Some (field_text f) };
+
     fn fmt<W: fmt::Write>(&self, f: &mut fmt::Formatter<W>) -> fmt::Result {
         let Field {
             identifier,
@@ -44,89 +82,8 @@ impl fmt::Display for Field {
 pub fn read(label: &[u8], fields: &mut [Field]) -> Result<usize, Fault>
     ensures { Reads label.now fields.old fields.new result }
 {
-    let entries = entries_of(label, fields.len())?;
-    check(label, entries)?;
-    fill(label, entries, fields);
-    Ok(entries.len() / 4)
-}
-
-// The bytes of the header's entries, of which there are no more than the room for fields.
-fn entries_of(label: &[u8], room: usize) -> Result<&[u8], Fault>
-    ensures { MatchResult result (λ e. Headed label.now × (count label.now ≤ room) × (e.now ≡ take (4 * count label.now) (drop 2 label.now))) (Refused label.now room) }
-{
-    match label {
-        [edition, count, rest @ ..] => {
-            if *edition != 3 {
-                return Err(Fault::UnknownEdition);
-            }
-            if *count > 32 {
-                return Err(Fault::TooManyEntries);
-            }
-            let count = *count as usize;
-            if rest.len() < 4 * count {
-                return Err(Fault::LabelTooShort {
-                    length: label.len(),
-                });
-            }
-            if room < count {
-                return Err(Fault::TooFewFields);
-            }
-            Ok(&rest[0..4 * count])
-        }
-        _ => Err(Fault::LabelTooShort {
-            length: label.len(),
-        }),
-    }
-}
-
-// What an entry says.
-fn field_of(entry: &[u8]) -> Field
-    requires { length entry.now ≡ 4 }
-    ensures { result ≡ field entry.now }
-{
-    Field {
-        identifier: entry[0],
-        offset: u16::from_be_bytes([entry[2], entry[3]]),
-        length: entry[1],
-    }
-}
-
-// Whether the field's bytes lie between the header's end and the label's.
-fn is_within(field: Field, header_end: usize, label_end: usize) -> bool
-    ensures { result ≡ lies_within field header_end label_end }
-{
-    let start = field.offset as usize;
-    header_end <= start && start + field.length as usize <= label_end
-}
-
-// Refuses the first entry that is not sound.
-fn check(label: &[u8], entries: &[u8]) -> Result<(), Fault>
-    requires headed { Headed label.now }
-    requires listed { entries.now ≡ take (4 * count label.now) (drop 2 label.now) }
-    ensures { MatchResult result (λ _. (i : ℕ) → i < count label.now → Sound label.now (entry label.now i)) (Unsound label.now) }
-{
-    let header_end = 2 + entries.len();
-    for (i, bytes) in entries.chunks_exact(4).enumerate() {
-        let field = field_of(bytes);
-        if field.identifier > 99 {
-            return Err(Fault::UnknownIdentifier { place: 2 + 4 * i });
-        }
-        if !is_within(field, header_end, label.len()) {
-            return Err(Fault::PartOutside { place: 2 + 4 * i });
-        }
-    }
-    Ok(())
-}
-
-// Writes what the entries say into the list's first entries.
-fn fill(label: &[u8], entries: &[u8], fields: &mut [Field])
-    requires headed { Headed label.now }
-    requires listed { entries.now ≡ take (4 * count label.now) (drop 2 label.now) }
-    requires room { count label.now ≤ length fields.old }
-    ensures fields { (i : ℕ) (d : Field) → i < count label.now → slice_index_or fields.new i d ≡ entry label.now i }
-    ensures rest { drop (count label.now) fields.new ≡ drop (count label.now) fields.old }
-{
-    for (i, bytes) in entries.chunks_exact(4).enumerate() {
-        fields[i] = field_of(bytes);
-    }
+    let header = Header::read(label, fields.len())?;
+    header.check()?;
+    header.fill(fields);
+    Ok(header.count())
 }

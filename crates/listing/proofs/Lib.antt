@@ -1,2 +1,1 @@
-mod Parting
 mod Finding

@@ -7,10 +7,8 @@ pub(crate) fn parted(bytes: &[u8]) -> (&[u8], &[u8])
     ensures parts { Parted bytes.now result.0.now result.1.now }
     ensures within { length result.1.now ≤ length bytes.now }
 {
-    for i in 0..bytes.len() {
-        if bytes[i] == b'\n' {
-            return (&bytes[0..i], &bytes[i + 1..]);
-        }
+    match bytes.iter().position(|byte| *byte == b'\n') {
+        Some(at) => (&bytes[..at], &bytes[at + 1..]),
+        None => (bytes, &[]),
     }
-    (bytes, &bytes[bytes.len()..])
 }

@@ -1,5 +1,6 @@
 // The job of the program: an expression and a text go in, every match comes out.
 ghost use Rattle.std.specs.Prelude.{◌≤◌, length};
+ghost use Rattle.listing.specs.declared.job.TheConstants.{LONGEST_INPUT};
 ghost use Rattle.listing.specs.Job.{Found};
 
 use expression::{Mode, read};
@@ -8,11 +9,14 @@ use refusal::Fault;
 use std::alloc::Global;
 use tabled::Tabled;
 
-// As many entries as matches can end at one place of a text of 4,096 symbols.
-const ROOM: usize = 4097;
+// The most bytes that are read, expression and text together.
+pub(crate) const LONGEST_INPUT: usize = 4_096;
+
+// As many entries as matches can end at one place of the longest text.
+const ROOM: usize = LONGEST_INPUT + 1;
 
 pub(crate) fn list(heap: Global, expression: &[u8], text: &[u8]) -> Result<Listing, Fault>
-    requires { length text.now ≤ 4096 }
+    requires { length text.now ≤ LONGEST_INPUT }
     ensures { Found expression.now text.now result }
 {
     let engine = Tabled::new(heap, read(heap, Mode::Bytes, expression)?)?;
