@@ -1,18 +1,10 @@
 -- The tails listed by lengths, and the distances reckoned from the list: what the code computes. Assumes nothing.
 use Rattle.std.specs.Prelude.{◌≡◌, ℕ, zero, suc, ◌+◌, ◌-◌, ◌<◌, min, max, Bool, true, false, cond, ◌&&◌, ◌||◌, List, [], ◌∷◌, ◌++◌, length, ◌==◌, nat_lt}
 use Rattle.std.specs.List.{flat_map}
-use Rattle.regular.specs.Language.{Regex, one, join, either, star, plus, maybe}
+use Rattle.regular.specs.Language.{Regex}
+pub use Rattle.regular.specs.Language.{Within}
 use Rattle.regular.specs.Positions.{holds, size, some_below, arrow, reached, tailed}
 use Rattle.distance.specs.Extremes.{Distance, infinite, finite, lesser}
-
--- every code that the expression's sets hold is below the bound
-abbrev pub Within : ℕ → Regex → Type 0
-Within codes (one s) = (c : ℕ) → s c ≡ true → c < codes
-Within codes (join a b) = Within codes a × Within codes b
-Within codes (either a b) = Within codes a × Within codes b
-Within codes (star a) = Within codes a
-Within codes (plus a) = Within codes a
-Within codes (maybe a) = Within codes a
 
 -- the positions 1 to n hold both codes or neither
 abbrev pub alike_below : Regex → ℕ → ℕ → ℕ → Bool

@@ -3,6 +3,7 @@ ghost use Rattle.syntax.specs.Reading.{Reads};
 ghost use Rattle.expression.specs.Results.{tree_of};
 
 use crate::expression::Expression;
+use crate::outline::outline_of;
 use refusal::Fault;
 use std::alloc::Global;
 use syntax::{Mode, parse};
@@ -13,5 +14,6 @@ pub fn read(heap: Global, mode: Mode, bytes: &[u8]) -> Result<Expression, Fault>
     ensures { Reads mode bytes.now (tree_of result) }
 {
     let tree = parse(heap, mode, bytes)?;
-    Ok(Expression { tree })
+    let outline = outline_of(&tree, 0);
+    Ok(Expression { tree, outline })
 }
