@@ -4,14 +4,14 @@ use Rattle.refusal.specs.declared.Fault.{Fault}
 use Rattle.refusal.specs.declared.Fault.TheVariants.{NoPlainWord, Memory}
 use Rattle.syntax.specs.declared.tree.Node.{Node}
 use Rattle.syntax.specs.Tree.{language, spelling}
+use Rattle.plain_word.specs.Jumps.{WordJumps}
 use Rattle.word.specs.declared.word.Word.{Word}
-use Rattle.word.specs.Jumps.{WordJumps}
 
 -- it is of that tree and has the word that the tree spells; its jumps are the definitions' numbers
 pub record JumpsExactly (tree : Node) (e : Word) : Type 0 where
   pub same_tree : e.expression.tree ≡ tree
-  pub letters : spelling tree ≡ Some (vec_items e.letters)
-  pub exact : WordJumps (language tree) (vec_items e.letters) (vec_items e.jumps)
+  pub letters : spelling tree ≡ Some e.letters
+  pub exact : WordJumps (language tree) e.letters (vec_items e.jumps)
 
 -- no plain word just if the tree spells none; want of memory only where it does
 abbrev pub MadeFor : Node → Result Word Fault → Type 0

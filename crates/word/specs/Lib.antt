@@ -1,5 +1,1 @@
-pub mod Jumps
 pub mod Exact
-pub mod Plain
-pub mod Ends
-pub mod Aligned

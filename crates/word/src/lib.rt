@@ -2,8 +2,8 @@
 
 #![tactic(auto)]
 
-mod jumps;
 mod letters;
+mod spelling;
 mod steps;
 mod word;
 

@@ -2,12 +2,10 @@ ghost use Rattle.std.specs.Prelude.{length, slice_index};
 ghost use Rattle.syntax.specs.Tree.{language};
 ghost use Rattle.word.specs.Exact.{MadeFor};
 ghost use Rattle.syntax.proofs.Filled.{full_inhabited};
-ghost use Rattle.std.proofs.Math.Logic.{∥∥₁_elim};
-ghost use Rattle.distance.proofs.Safe.{jumps_safe};
-ghost use Rattle.word.specs.Plain.{own_expression, counted, jump_is};
+ghost use Rattle.plain_word.proofs.Plain.{skips as least_moves_skip};
 
-use crate::jumps::{all_jumps, entry};
-use crate::letters::{is_plain, next, spell};
+use crate::letters::Letters;
+use crate::spelling::is_plain;
 use crate::word::Word;
 use engine::Engine;
 use expression::Expression;
@@ -15,6 +13,9 @@ use refusal::Fault;
 use std::alloc::Global;
 
 const NONE_READ: usize = 0;
+
+// beyond the word's length, which no count of symbols read is
+const ANY_JUMP: u32 = 1;
 
 impl Word {
     /// Builds the engine of a plain word: `Word::new(heap, read(heap, Mode::Bytes, b"abc")?)`.
@@ -25,9 +26,8 @@ impl Word {
         if !is_plain(&expression.tree) {
             return Err(Fault::NoPlainWord);
         }
-        let mut letters = Vec::new(heap);
-        spell(&mut letters, &expression.tree)?;
-        let jumps = all_jumps(heap, &letters)?;
+        let letters = Letters::of(heap, &expression)?;
+        let jumps = letters.least_moves(heap)?;
         Ok(Word {
             expression,
             letters,
@@ -48,24 +48,21 @@ impl Engine for Word {
 
     ghost inhabited = { λ e. full_inhabited e.expression.tree e.expression.full };
 
-    ghost skips = { λ e v tail. (
-      e.forward (length v) (counted e v tail),
-      λ u x l k w. ∥∥₁_elim e.exact (λ a. absurd a) (λ P. (jumps_safe.whole (own_expression e) (λ v. slice_index e.jumps.items (length v)) (λ v t. jump_is e v t P) v tail).1 u x l k w),
-    ) };
+    ghost skips = { λ e. least_moves_skip e.expression.tree e.letters e.expression.exact e.spells e.expression.few e.jumps.items e.count e.least };
 
     fn start(&self) -> usize {
         NONE_READ
     }
 
     fn advance(&self, state: usize, code: u8) -> Option<usize> {
-        next(&self.letters, state, code)
+        self.letters.next(state, code)
     }
 
     fn is_final(&self, state: usize) -> bool {
-        state == self.letters.len()
+        state == self.letters.count()
     }
 
     fn jump(&self, state: usize) -> u32 {
-        entry(&self.jumps, state)
+        self.jumps.get(state).copied().unwrap_or(ANY_JUMP)
     }
 }
