@@ -2,3 +2,4 @@ mod Sorted
 mod Longer
 mod Distances
 mod Exactly
+pub mod Greatest
