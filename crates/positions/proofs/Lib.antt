@@ -2,3 +2,4 @@ pub mod Least
 pub mod Gathered
 pub mod Only
 pub mod Unions
+pub mod Told

@@ -1,13 +1,16 @@
--- Unions of sets that are told by a test. Assumes nothing.
+-- Unions of sets, also of such as are told by a test. Assumes nothing.
 use Rattle.std.proofs.Common.{◌≡◌, ℕ, Bool, true, false, cond, ◌&&◌, ◌||◌, sym, ap, ◌∙◌, ap₂, arith}
 use Rattle.std.specs.Prelude.{◌==◌}
-use Rattle.std.proofs.lemmas.Nat.Bits.{bit_at-zero}
+use Rattle.std.proofs.lemmas.Nat.Bits.{bit_at-zero, bit_at_or, same_from_bits}
 use lib.Bits.{bit_or, or_lt}
 use mathlib.Core.Bool.{or_comm, and_comm}
 use Rattle.std.proofs.Math.Bool.{or-false}
 use Rattle.regular.specs.Sets.{as_set}
 use Rattle.regular.proofs.Bits.{bit_of_or}
 use Rattle.regular.proofs.Sets.{is_set, as_set_bit, as_set_below}
+
+pub or_assoc : (a b c : ℕ) → bit_or (bit_or a b) c ≡ bit_or a (bit_or b c)
+or_assoc a b c = same_from_bits _ _ (λ i. omega (arith, bit_at_or (bit_or a b) c i, bit_at_or a b i, bit_at_or a (bit_or b c) i, bit_at_or b c i))
 
 pub same_set : (f g : ℕ → Bool) → ((q : ℕ) → f q ≡ g q) → as_set f ≡ as_set g
 same_set f g e = ap as_set (λ i q. e q i)

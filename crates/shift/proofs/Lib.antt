@@ -1,6 +1,5 @@
-mod Spelt
-mod Firsts
-mod Steps
-mod Chains
-mod Good
-mod Final
+mod Sorted
+mod Longer
+mod Distances
+mod Exactly
+pub mod Greatest

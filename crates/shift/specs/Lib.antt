@@ -1,1 +1,3 @@
-pub mod Records
+pub mod Led
+pub mod Listed
+pub mod Weighed

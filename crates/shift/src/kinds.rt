@@ -1,40 +1,20 @@
 // The kinds of codes.
-ghost use Rattle.std.specs.Prelude.{◌≡◌, ◌<◌, length, IfOk};
-ghost use Rattle.shift.specs.Records.{is_first, kinds_in};
+ghost use Rattle.std.specs.Prelude.{◌≡◌, IfOk};
+ghost use Rattle.syntax.specs.Tree.{language};
+ghost use Rattle.shift.specs.Led.{all_kinds};
 
+use single::SingleStep;
 use std::alloc::{AllocError, Global};
 
-/// A kind by its least code, with the positions that hold it.
-#[derive(Clone, Copy)]
-pub struct Kind {
-    pub code: u8,
-    pub positions: u64,
-}
-
-// No code below this one is held by the same positions.
-fn is_first_of_kind(held: &[u64], code: usize) -> bool
-    requires { code < length held.now }
-    ensures { result ≡ is_first held.now code code }
+// The kinds, each by its least code: no code below it is held by the same positions.
+pub(crate) fn find_kinds(heap: Global, engine: &SingleStep) -> Result<Vec<u8>, AllocError>
+    ensures { IfOk result (λ v. v.items ≡ all_kinds (language engine.now.expression.tree)) }
 {
-    for other in 0..code {
-        if held[other] == held[code] {
-            return false;
-        }
-    }
-    true
-}
-
-pub(crate) fn find_kinds(heap: Global, held: &[u64]) -> Result<Vec<Kind>, AllocError>
-    requires { length held.now ≡ 256 }
-    ensures { IfOk result (λ v. v.items ≡ kinds_in held.now (length held.now)) }
-{
+    let held = engine.held();
     let mut kinds = Vec::new(heap);
-    for code in 0..held.len() {
-        if is_first_of_kind(held, code) {
-            kinds.push(Kind {
-                code: code as u8,
-                positions: held[code],
-            })?;
+    for (code, positions) in held.iter().enumerate() {
+        if !held[..code].contains(positions) {
+            kinds.push(code as u8)?;
         }
     }
     Ok(kinds)

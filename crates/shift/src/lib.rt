@@ -1,14 +1,14 @@
 //! Finds how far a search may go on from each position of an expression.
 //!
-//! `kinds` sorts the codes, `tails` lists the tails of kinds by lengths, `distances` measures each of them,
-//! and `jumps` takes for each position the least over its pieces.
+//! `kinds` tells codes apart, `tails` lists the tails of kinds by lengths and reckons their distances,
+//! and `pieces` takes for each position the least over its pieces.
 
 #![tactic(auto)]
 
-mod distances;
 mod jumps;
 mod kinds;
-mod sets;
+mod pieces;
+mod tail;
 mod tails;
 
 pub use jumps::position_jumps;

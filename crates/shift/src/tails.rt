@@ -1,114 +1,109 @@
-// The tails, as words of kinds, by lengths.
-ghost use Rattle.std.specs.Prelude.{◌≡◌, ℕ, ◌+◌, ◌^◌, ◌<◌, ◌≤◌, [], ◌∷◌, ◌++◌, length, IfOk, vec_len, OnOk};
-ghost use Rattle.shift.specs.Records.{at, empty_tail, fronts, Grown, Fill};
+// The tails by lengths, and their distances.
+ghost use Rattle.std.specs.Prelude.{◌≡◌, ◌<◌, ◌≤◌, map, length, IfOk, MatchOption, vec_len};
+ghost use Rattle.std.specs.List.{flat_map};
+ghost use Rattle.syntax.specs.Tree.{language};
+ghost use Rattle.distance.specs.Extremes.{finite, lesser};
+ghost use Rattle.distance.specs.Found.{first_of, longer, opens, second_of};
+ghost use Rattle.shift.specs.Led.{AllLed, led, words};
+ghost use Rattle.shift.specs.Listed.{ListedFor, distance, longer_words};
 
-use crate::kinds::Kind;
-use crate::sets::follow;
+use crate::kinds::find_kinds;
+use crate::tail::Tail;
+use single::SingleStep;
 use std::alloc::{AllocError, Global};
 
+/// Only so many tails are listed: the depth is the greatest length for which all up to it are.
 const LIMIT: usize = 256;
 
-/// A tail by its first code and the index of the tail behind it, with its length and the positions that it leads to.
-#[derive(Clone, Copy)]
-pub struct Tail {
-    pub code: u8,
-    pub behind: usize,
-    pub positions: u64,
-    pub span: u32,
-}
-
-/// Every tail up to a length, the depth.
+/// Every tail up to a length, the depth, by lengths.
 #[derive(Drop)]
-pub struct Found {
-    pub tails: Vec<Tail>,
-    pub depth: u32,
+pub struct Tails {
+    pub(crate) list: Vec<Tail>,
+    pub(crate) depth: u32,
 }
 
-// Records the tails that are one code longer than the one at an index.
-fn front(
-    found: &mut Vec<Tail>,
-    arrows: &[u64],
-    kinds: &[Kind],
-    behind: usize,
-) -> Result<(), AllocError>
-    requires few { length arrows.now ≤ 64 }
-    requires behind_in { behind < vec_len found.old }
-    requires span_fits { (at found.old.items behind).span + 1 < 2 ^ 32 }
-    ensures { OnOk result (found.new.items ≡ found.old.items ++ fronts arrows.now kinds.now found.old.items behind) }
-{
-    let tail = found[behind];
-    let next = follow(arrows, tail.positions);
-    for kind in kinds {
-        let positions = next & kind.positions;
-        if positions != 0 {
-            found.push(Tail {
-                code: kind.code,
-                behind,
-                positions,
-                span: tail.span + 1,
-            })?;
-        }
-    }
-    Ok(())
-}
-
-// Records the tails that are one code longer than those from an index on, or as many of them as go past the limit.
-fn grow(
-    found: &mut Vec<Tail>,
-    arrows: &[u64],
-    kinds: &[Kind],
-    start: usize,
-) -> Result<(), AllocError>
-    requires few { length arrows.now ≤ 64 }
-    requires start_in { start ≤ vec_len found.old }
-    requires span_fits { (i : ℕ) → i < vec_len found.old → (at found.old.items i).span + 1 < 2 ^ 32 }
-    ensures { OnOk result (Grown arrows.now kinds.now start found.old.items found.new.items) }
-{
-    for behind in start..found.len() {
-        if found.len() > LIMIT {
-            return Ok(());
-        }
-        front(found, arrows, kinds, behind)?;
-    }
-    Ok(())
-}
-
-// The list of the empty tail.
-fn start_list(heap: Global) -> Result<Vec<Tail>, AllocError>
-    ensures { IfOk result (λ v. v.items ≡ empty_tail ∷ []) }
-{
-    let mut tails = Vec::new(heap);
-    tails.push(Tail {
-        code: 0,
-        behind: 0,
-        positions: 1,
-        span: 0,
-    })?;
-    Ok(tails)
-}
-
-// The tails up to the greatest length, at most that of the shortest word, for which the limit is kept.
-pub(crate) fn find_tails(
+// The tails that are one code longer than those of a list, if there is room for them.
+fn longer_than(
     heap: Global,
-    arrows: &[u64],
-    kinds: &[Kind],
-    shortest: u32,
-) -> Result<Found, AllocError>
-    requires { length arrows.now ≤ 64 }
-    ensures { IfOk result (λ f. Fill arrows.now kinds.now shortest f.depth f.tails.items) }
+    engine: &SingleStep,
+    kinds: &[u8],
+    level: &[Tail],
+    room: usize,
+) -> Result<Option<Vec<Tail>>, AllocError>
+    requires { AllLed (language engine.now.expression.tree) level.now }
+    ensures { IfOk result (λ o. MatchOption o (room < length (longer_words (language engine.now.expression.tree) kinds.now (words level.now))) (λ v. (v.items ≡ map (led (language engine.now.expression.tree)) (longer_words (language engine.now.expression.tree) kinds.now (words level.now))) × (vec_len v ≤ room))) }
 {
-    let mut tails = start_list(heap)?;
-    let mut depth = 0;
-    let mut start = 0;
-    while depth < shortest {
-        let end = tails.len();
-        grow(&mut tails, arrows, kinds, start)?;
-        if tails.len() > LIMIT {
-            tails.truncate(end);
-            return Ok(Found { tails, depth });
+    let mut list = Vec::new(heap);
+    for tail in level {
+        tail.add_longer(heap, engine, kinds, &mut list)?;
+        if list.len() > room {
+            return Ok(None);
         }
-        start = end;
-        depth += 1;
     }
-    Ok(Found { tails, depth })
+    Ok(Some(list))
+}
+
+impl Tails {
+    pub(crate) fn of(heap: Global, engine: &SingleStep) -> Result<Tails, AllocError>
+        ensures { IfOk result (ListedFor (language engine.now.expression.tree)) }
+    {
+        let kinds = find_kinds(heap, engine)?;
+        let mut list = Vec::new(heap);
+        list.push(Tail::empty(heap))?;
+        let mut start = 0;
+        let shortest = engine.shortest();
+        for depth in 0..shortest {
+            match longer_than(heap, engine, &kinds, &list[start..], LIMIT - list.len())? {
+                None => return Ok(Tails { list, depth }),
+                Some(mut longer) => {
+                    start = list.len();
+                    list.append(&mut longer)?;
+                }
+            }
+        }
+        Ok(Tails {
+            list,
+            depth: shortest,
+        })
+    }
+
+    // How far the nearest tail goes on from a word, if any does.
+    fn first(&self, word: &[u8]) -> Option<usize>
+        ensures { distance result ≡ first_of (words self.now.list.items) word.now }
+    {
+        self.list.iter().filter_map(|tail| tail.excess(word)).min()
+    }
+
+    // Some tail of the depth goes on from the word.
+    fn opens(&self, word: &[u8]) -> bool
+        ensures { result ≡ opens self.now.depth (words self.now.list.items) word.now }
+    {
+        self.list
+            .iter()
+            .any(|tail| tail.goes_on(word, self.depth as usize))
+    }
+
+    // How far it is, from the word or some end of it, to the end of a tail of the depth.
+    fn second(&self, word: &[u8]) -> usize
+        ensures { result ≡ second_of self.now.depth (words self.now.list.items) word.now }
+    {
+        match word.split_first() {
+            None => self.depth.max(1) as usize,
+            Some((_, rest)) => {
+                if self.opens(word) {
+                    (self.depth as usize).saturating_sub(word.len())
+                } else {
+                    self.second(rest)
+                }
+            }
+        }
+    }
+
+    // The lesser of the two distances.
+    pub(crate) fn nearest(&self, word: &[u8]) -> usize
+        ensures { finite result ≡ lesser (first_of (words self.now.list.items) word.now) (finite (second_of self.now.depth (words self.now.list.items) word.now)) }
+    {
+        let second = self.second(word);
+        self.first(word).map_or(second, |first| first.min(second))
+    }
 }

@@ -1,3 +1,3 @@
-pub mod Digits
-pub mod Rows
 pub mod Filling
+pub mod Linked
+pub mod Stepping

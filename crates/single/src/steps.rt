@@ -1,24 +1,38 @@
+// The engine, and what it answers.
 ghost use Rattle.std.specs.Prelude.{◌≡◌, length, MatchResult, bit_and, slice_index};
 ghost use Rattle.refusal.specs.declared.Fault.TheVariants.{Memory};
-ghost use Rattle.regular.specs.Positions.{reached};
-ghost use Rattle.regular.specs.Sets.{as_set, followed};
+ghost use Rattle.regular.specs.Language.{shortest};
+ghost use Rattle.regular.specs.Positions.{final, reached};
+ghost use Rattle.regular.specs.Sets.{as_set, arrows_of, followed, held_of};
 ghost use Rattle.syntax.specs.Tree.{language};
 ghost use Rattle.syntax.proofs.Filled.{full_inhabited};
 ghost use Rattle.std.proofs.Common.{rules, arith};
 
 use crate::fill::fill;
-use crate::sets::union;
-use crate::single::SingleStep;
 use engine::Engine;
 use expression::Expression;
+use positions::Positions;
 use refusal::Fault;
 use std::alloc::Global;
 
-// the set that holds position 0 alone
-const START: u64 = 1;
+// the start, which is no position of the expression's
+const START: usize = 0;
 
 // every jump goes to the very next place
 const STEP: u32 = 1;
+
+/// An engine that follows the set of positions which what is read can stand at, and jumps 1.
+/// It owns its expression, and for each position the ones that may stand before it, for each code the ones that hold it, and the final ones.
+#[derive(Drop)]
+pub struct SingleStep {
+    expression: Expression,
+    arrows: Vec<Positions>,
+    held: [Positions; 256],
+    finals: Positions,
+    ghost entering: { arrows.items ≡ arrows_of (language expression.tree) },
+    ghost holding: { held ≡ held_of (language expression.tree) },
+    ghost ending: { finals ≡ as_set (final (language expression.tree)) },
+}
 
 impl SingleStep {
     /// Builds the engine of an accepted expression: `SingleStep::new(heap, read(heap, Mode::Bytes, b"ab+c")?)`.
@@ -27,11 +41,15 @@ impl SingleStep {
         ensures { MatchResult result (λ e. e.expression.tree ≡ expression.tree) (λ f. f ≡ Memory) }
     {
         let rows = expression.positions() as usize + 1;
-        let mut arrows = vec![in heap; 0u64; rows]?;
-        let mut held = vec![in heap; 0u64; 256]?;
-        let ends = fill(&expression.tree, 0, &mut arrows, &mut held);
-        arrows[0] = ends.lasts;
-        let finals = ends.firsts | ends.nullable as u64;
+        let mut arrows = vec![in heap; Positions::empty(); rows]?;
+        let mut held = [Positions::empty(); 256];
+        let outline = fill(&expression.tree, 0, &mut arrows, &mut held);
+        arrows[START] = outline.lasts;
+        let finals = if outline.nullable {
+            outline.firsts | Positions::only(START)
+        } else {
+            outline.firsts
+        };
         Ok(SingleStep {
             expression,
             arrows,
@@ -39,19 +57,32 @@ impl SingleStep {
             finals,
         })
     }
-}
 
-// The positions that may stand before those of the set, and hold the code.
-fn enter(arrows: &[u64], held: &[u64], set: u64, code: u8) -> u64
-    requires { length held.now ≡ 256 }
-    ensures { result ≡ bit_and (followed arrows.now set (length arrows.now)) (slice_index held.now code) }
-{
-    union(arrows, set) & held[code as usize]
+    /// The length of a shortest word of the expression.
+    pub fn shortest(&self) -> u32
+        ensures { result ≡ shortest (language self.now.expression.tree) }
+    {
+        self.expression.shortest()
+    }
+
+    /// For the start the positions that end a word, and for each position those that may stand just before it.
+    pub fn arrows(&self) -> &[Positions]
+        ensures { result.now ≡ arrows_of (language self.now.expression.tree) }
+    {
+        &self.arrows
+    }
+
+    /// For each code the positions that hold it.
+    pub fn held(&self) -> &[Positions]
+        ensures { result.now ≡ held_of (language self.now.expression.tree) }
+    {
+        &self.held
+    }
 }
 
 /// The state is the set of the positions that what was read leads to, the start being 0.
 impl Engine for SingleStep {
-    type State = u64;
+    type State = Positions;
 
     ghost expression = { λ e. language e.expression.tree };
 
@@ -63,20 +94,20 @@ impl Engine for SingleStep {
 
     ghost skips = { first_of (Prim.search rules, Prim.grind (arith, Self.row.coded.inj)) };
 
-    fn start(&self) -> u64 {
-        START
+    fn start(&self) -> Positions {
+        Positions::only(START)
     }
 
-    fn advance(&self, state: u64, code: u8) -> Option<u64> {
-        let next = enter(&self.arrows, &self.held, state, code);
-        if next == 0 { None } else { Some(next) }
+    fn advance(&self, state: Positions, code: u8) -> Option<Positions> {
+        let next = state.follow(&self.arrows) & self.held[code as usize];
+        if next.is_empty() { None } else { Some(next) }
     }
 
-    fn is_final(&self, state: u64) -> bool {
-        state & self.finals != 0
+    fn is_final(&self, state: Positions) -> bool {
+        !(state & self.finals).is_empty()
     }
 
-    fn jump(&self, _state: u64) -> u32 {
+    fn jump(&self, _state: Positions) -> u32 {
         STEP
     }
 }

@@ -1,23 +1,28 @@
-use Rattle.std.proofs.Common.{◌≡◌, length, vec_items, sym, ap, ◌∙◌, arith}
-use Rattle.std.proofs.lemmas.Result.{err_from_is_err_and}
-use Rattle.shift.specs.Records.{kinds_in}
-use Rattle.shift.proofs.Steps.{kinds_yes, kinds_no}
+use Rattle.std.proofs.Common.{◌≡◌, not, length, vec_items, sym, ap, ◌∙◌, arith}
+use Rattle.regular.proofs.Sets.{length_held}
+use Rattle.distance.specs.Found.{first_alike}
+use Rattle.syntax.specs.Tree.{language}
+use Rattle.shift.proofs.Sorted.{first_by, kinds_yes, kinds_no}
 use Rattle.shift.proofs.kinds.find_kinds.Goals as goal
-use Rattle.shift.proofs.kinds.find_kinds.Goals.{then-is_first_of_kind+in_ok-push, else-is_first_of_kind}
+use Rattle.shift.proofs.kinds.find_kinds.Goals.{Joined-not-contains, then-not-contains+in_ok-push, else-not-contains}
+
+pub overflow_cast-code : goal.overflow_cast-code
+overflow_cast-code c =
+    omega (arith, ap length c.held-held.ensures, length_held (language c.args.engine.now.expression.tree))
+
+told : (c : Joined-not-contains) → not c.contains.result ≡ first_alike (language c.args.engine.now.expression.tree) c.loop-code.code c.loop-code.code
+told c =
+    let e = c.args.engine.now in
+    ap not c.contains.ensures.value
+    ∙ first_by (language e.expression.tree) e.expression.few c.held-held.result.now c.loop-code.code c.index-held-code.result c.held-held.ensures
+    (omega (arith, ap length c.held-held.ensures, length_held (language e.expression.tree)))
+    c.index-held-code.is
 
 pub loop-code-preserved : goal.loop-code-preserved
 loop-code-preserved c =
-    elim c.if-is_first_of_kind.branch [
-      | then-is_first_of_kind+in_ok-push w ↦
-          ap vec_items w.kinds-is ∙ w.in_ok-push.ensures.items
-          ∙ kinds_yes c.args.held.now (vec_items c.loop-code.kinds) c.loop-code.code c.loop-code.invariant (sym w.if-is_first_of_kind.ensures)
-      | else-is_first_of_kind w ↦
-          ap vec_items w.kinds-is
-          ∙ kinds_no c.args.held.now (vec_items c.loop-code.kinds) c.loop-code.code c.loop-code.invariant (sym w.if-is_first_of_kind.ensures)
+    let r = language c.args.engine.now.expression.tree in
+    elim c.if-not-contains.branch [
+      | then-not-contains+in_ok-push w ↦
+          ap vec_items w.kinds-is ∙ w.in_ok-push.ensures.items ∙ kinds_yes r (vec_items c.loop-code.kinds) c.loop-code.code c.loop-code.invariant (sym (told c) ∙ ap not w.if-not-contains.true)
+      | else-not-contains w ↦ ap vec_items w.kinds-is ∙ kinds_no r (vec_items c.loop-code.kinds) c.loop-code.code c.loop-code.invariant (sym (told c) ∙ ap not w.if-not-contains.false)
     ]
-
-pub returns-in_err-push : goal.returns-in_err-push
-returns-in_err-push c = let p = err_from_is_err_and c.from_residual.result c.from_residual.ensures.1 in rw p.1 tt
-
-pub returns : goal.returns
-returns c = let e : c.loop-code.code ≡ length c.args.held.now = omega arith in c.loop-code.invariant ∙ ap (kinds_in c.args.held.now) e

@@ -1,21 +1,29 @@
-use Rattle.std.proofs.Common.{◌≡◌, ◌^◌, ◌<◌, false, cond, length, get_or, sym, ap, ◌∙◌, ap₂, arith, below_more}
-use lib.Bits.{bit_or}
-use Rattle.std.proofs.lemmas.Nat.{one_shl}
-use Rattle.std.proofs.lemmas.List.{get_or-set_same, get_or-set_other}
+-- `hold` meets its contract. Assumes nothing.
+use Rattle.std.proofs.Common.{◌≡◌, ◌≢◌, ℕ, ◌<◌, Bool, false, cond, length, get_or, sym, ap, ◌∙◌, arith, below_more}
+use Rattle.std.proofs.lemmas.List.{length-set, get_or-set_same, get_or-set_other, get_or_default}
+use lib.Bits.{bit_or, or_zero_r}
 use Rattle.single.proofs.fill.hold.Goals as goal
-use Rattle.single.proofs.fill.hold.Goals.{then-codes-c, else-codes-c}
+use Rattle.single.proofs.fill.hold.Goals.{then-holds, else-holds}
 
-pub loop-c-preserved : goal.loop-c-preserved
-loop-c-preserved c =
-    let i = c.loop-c.c in
-    let lt : i < length c.loop-c.held = omega arith in
-    let added : c.if-codes-c.held ≡ cond (get_or c.args.codes.now i false) (2 ^ c.args.position) 0 =
-    elim c.if-codes-c.branch [
-      | then-codes-c w ↦ w.held-is ∙ one_shl c.args.position 64 c.requires.0 ∙ ap (λ b. cond b (2 ^ c.args.position) 0) (sym w.if-codes-c.true)
-      | else-codes-c w ↦ w.held-is ∙ ap (λ b. cond b (2 ^ c.args.position) 0) (sym w.if-codes-c.false)
-    ] in (
-      below_more _ _
-          (λ k h. get_or-set_other c.loop-c.held i k _ 0 (λ e. omega arith) ∙ c.loop-c.invariant.0 k h)
-          (get_or-set_same c.loop-c.held i _ 0 lt ∙ ap₂ bit_or (c.loop-c.invariant.1 i (omega arith)) added),
-      λ k h. get_or-set_other c.loop-c.held i k _ 0 (λ e. omega arith) ∙ c.loop-c.invariant.1 k (omega arith),
-    )
+pub loop-code-preserved : goal.loop-code-preserved
+loop-code-preserved c =
+    let i = c.loop-code.code in
+    let rows = c.loop-code.held in
+    let h = c.loop-code.invariant in
+    let gained = λ (b : Bool). bit_or (get_or rows i 0) (cond b c.args.set 0) in
+    let lt : i < length rows = omega (arith, h.long) in
+    let here : get_or c.if-holds.held i 0 ≡ gained (get_or c.args.codes.now i false) =
+    elim c.if-holds.branch [
+      | then-holds w ↦ ap (λ xs. get_or xs i 0) w.held-is ∙ get_or-set_same rows i _ 0 lt ∙ w.bitor_assign.ensures.after ∙ ap (λ x. bit_or x c.args.set) (get_or_default _ _ _ _ lt) ∙ ap gained (sym w.if-holds.true)
+      | else-holds w ↦ ap (λ xs. get_or xs i 0) w.held-is ∙ sym (or_zero_r (get_or rows i 0)) ∙ ap gained (sym w.if-holds.false)
+    ] in
+    let there : (k : ℕ) → k ≢ i → get_or c.if-holds.held k 0 ≡ get_or rows k 0 =
+    elim c.if-holds.branch [
+      | then-holds w ↦ λ k ne. ap (λ xs. get_or xs k 0) w.held-is ∙ get_or-set_other rows i k _ 0 ne
+      | else-holds w ↦ λ k ne. ap (λ xs. get_or xs k 0) w.held-is
+    ] in
+    record {
+      long = elim c.if-holds.branch [ then-holds w ↦ ap length w.held-is ∙ length-set rows i _ ∙ h.long | else-holds w ↦ ap length w.held-is ∙ h.long ];
+      done = below_more _ _ (λ k l. there k (λ e. omega arith) ∙ h.done k l) (here ∙ ap (λ x. bit_or x (cond (get_or c.args.codes.now i false) c.args.set 0)) (h.left i (omega arith)));
+      left = λ k l. there k (λ e. omega arith) ∙ h.left k (omega arith);
+    }

@@ -1,12 +1,7 @@
-use Rattle.std.proofs.Common.{not, eqb, sym, ◌∙◌, ap₂}
-use lib.Bits.{bit_and}
+-- `is_final` meets its contract. Assumes nothing.
 use Rattle.syntax.specs.Tree.{language}
-use Rattle.regular.proofs.Sets.{word_final, final_word}
+use Rattle.single.proofs.Stepping.{word_told}
 use Rattle.single.proofs.steps.SingleStepEngine.is_final.Goals as goal
 
 pub returns : goal.returns
-returns c v tail is =
-    let e = c.args.self.now in
-    let r = language e.expression.tree in
-    let same = ap₂ (λ x y. not (eqb (bit_and x y) 0)) is e.ending in
-    (λ t. final_word r e.expression.few v (sym same ∙ t), λ word. same ∙ word_final r e.expression.few v word)
+returns c v tail is = let e = c.args.self.now in word_told (language e.expression.tree) e.expression.few v c.is_empty.result _ c.args.state e.finals c.is_empty.ensures is e.ending (cc)

@@ -1,5 +1,0 @@
-use Rattle.syntax.proofs.tree.Node.TheLaws.{the_size}
-use Rattle.single.proofs.fill.+fill.Given as goal
-
-abbrev pub decreases-fill : goal.decreases-fill
-decreases-fill l = the_size l.node.now
