@@ -5,7 +5,7 @@ use Rattle.regular.specs.Language.{Regex, one, join, either, star, plus, maybe, 
 use Rattle.regular.specs.Jumps.{Skips}
 use Rattle.regular.specs.Positions.{size}
 use Rattle.syntax.specs.declared.tree.Node.{Node}
-use Rattle.syntax.specs.declared.tree.Node.TheVariants.{Atom, Group', Join', Either', Star', Plus', Maybe'}
+use Rattle.syntax.specs.declared.tree.Node.TheVariants.{Atom, Group', Join', Either', Marked'}
 use Rattle.syntax.specs.Grammar.{letter, in_a_row}
 use Rattle.syntax.specs.Tree.{language, spelling, exact}
 use Rattle.syntax.proofs.Options.{some_same, none_some}
@@ -40,9 +40,7 @@ spelled_long (Join' p a q b) w e = go (spelling a) (spelling b) e (spelled_long 
     go (Some s) (Some t) e f g = omega (arith, ap length (some_same e), length-append s t, f s refl, g t refl)
 spelled_long (Group' p a) w e = none_some e
 spelled_long (Either' p a q b) w e = none_some e
-spelled_long (Star' p a) w e = none_some e
-spelled_long (Plus' p a) w e = none_some e
-spelled_long (Maybe' p a) w e = none_some e
+spelled_long (Marked' k p a) w e = none_some e
 
 pub ends_tails : EndsAreTails
 ends_tails n w x e v =
