@@ -49,9 +49,9 @@ module _ {t : Token} where
 
   not_open : (t ≡ Close) ⊎ ((t ≡ Bar) ⊎ ((k : tree.Mark) × (t ≡ Mark k))) → t ≡ Open → ⊥
   not_open = ⊎_elim
-      (λ e. apart e (λ o. let y : ◌≡◌ {A = ℕ} 0 1 = cc in omega arith)) (⊎_elim
-      (λ e. apart e (λ o. let y : ◌≡◌ {A = ℕ} 0 1 = cc in omega arith))
-      (λ (_, e). apart e (λ o. let y : ◌≡◌ {A = ℕ} 0 1 = cc in omega arith)))
+      (λ e. apart e (λ o. cc)) (⊎_elim
+      (λ e. apart e (λ o. cc))
+      (λ (_, e). apart e (λ o. cc)))
 
 abbrev pub Atoms : (m : Mode) → Lexer → ℕ → Result Node Fault → Lexer → Type 0
 Atoms m old left r new = (a : Tree m atom) (w : List ℕ) → Before m (written a ++ w) old → nesting a ≤ left → Got a w r new

@@ -1,5 +1,5 @@
 -- The automaton reads every written expression. Assumes nothing.
-use Rattle.std.proofs.Common.{◌≡◌, ℕ, suc, Bool, true, false, cond, eqb, List, [], ◌∷◌, ◌++◌, Some, None, Option, refl, ap, ◌∙◌, append_assoc, arith}
+use Rattle.std.proofs.Common.{◌≡◌, ℕ, suc, Bool, true, false, cond, eqb, List, [], ◌∷◌, ◌++◌, Some, None, Option, refl, ap, ◌∙◌, append_assoc}
 use Rattle.std.proofs.lemmas.Bool.{ne_eqb}
 use Rattle.syntax.specs.declared.mode.Mode.{Mode}
 use Rattle.syntax.specs.declared.mode.Mode.TheVariants.{Bytes, Fields}
@@ -37,10 +37,10 @@ shape Bytes newline = halves 92 110 refl refl refl
 shape Fields (pair a b p q) = halves a b (ap (λ t. cond t Part Not) p) q refl
 
 pub not_not : {x : Begun} → x ≡ Part → x ≡ Not → ⊥
-not_not {x} e f = let z : ◌≡◌ {A = ℕ} 0 1 = cc in omega arith
+not_not {x} e f = cc
 
 pub not_whole : {x : Begun} → x ≡ Whole → x ≡ Not → ⊥
-not_whole {x} e f = let z : ◌≡◌ {A = ℕ} 0 1 = cc in omega arith
+not_whole {x} e f = cc
 
 module _ (m : Mode) (d : ℕ) where
   pub went : (f : Form) (b : ℕ) {g : Form} {e : ℕ} (w : List ℕ) → step m f d b ≡ Some (state g e) → run m (b ∷ w) f d ≡ run m w g e

@@ -3,6 +3,8 @@ use Rattle.std.proofs.Common.{◌≡◌, ℕ, Bool, true, false, List, [], ◌�
 use mathlib.Core.List.{nil≢cons}
 use mathlib.Core.Bool.{Bool-set}
 use Rattle.std.specs.List.{flat_map}
+use Rattle.std.proofs.lemmas.List.{append_cancel_left}
+use Rattle.regular.proofs.Words.{head_same, tail_same}
 use Rattle.std.proofs.lemmas.Bool.{true≢false, false≢true}
 use Rattle.syntax.specs.declared.mode.Mode.{Mode}
 use Rattle.syntax.specs.declared.mode.Mode.TheVariants.{Bytes, Fields}
@@ -12,18 +14,8 @@ use Rattle.syntax.specs.Tokens.{Lexeme, atom, written_lexeme}
 use Rattle.syntax.proofs.Options.{some_same, none_some}
 use Rattle.syntax.proofs.Lexes.{Head, sign_lexeme, sign_head, set_head, unit_head, lexeme_head, members_start, caret_found}
 
-head_same : {A : Type 0} {b c : A} {v w : List A} → b ∷ v ≡ c ∷ w → b ≡ c
-head_same e = cc
-
-tail_same : {A : Type 0} {b c : A} {v w : List A} → b ∷ v ≡ c ∷ w → v ≡ w
-tail_same e = cc
-
-heads : {A : Type 0} {b c : A} {v w : List A} → b ∷ v ≡ c ∷ w → (b ≡ c) × (v ≡ w)
+heads : {b c : ℕ} {v w : List ℕ} → b ∷ v ≡ c ∷ w → (b ≡ c) × (v ≡ w)
 heads e = (head_same e, tail_same e)
-
-cancel : (u v w : List ℕ) → u ++ v ≡ u ++ w → v ≡ w
-cancel [] v w e = e
-cancel (x ∷ u) v w e = cancel u v w (heads e).1
 
 -- a test has one proof
 plain_same : (b c : ℕ) (p : special b ≡ false) (q : special c ≡ false) → b ≡ c → plain b p ≡ plain c q
@@ -97,13 +89,13 @@ module _ (m : Mode) where
       absurd (no_closing m xs _ w b)
   members_same (more k xs) (more j ys) v w e =
       let (a, b) = member_same k j _ _ (more_no_dash m xs _) (more_no_dash m ys _) (sym (append_assoc (written_member m k) (separator m ++ written_members m xs) (closing m ∷ v)) ∙ e ∙ append_assoc (written_member m j) (separator m ++ written_members m ys) (closing m ∷ w)) in
-      let (c, d) = members_same xs ys v w (cancel (separator m) _ _ (sym (append_assoc (separator m) (written_members m xs) (closing m ∷ v)) ∙ b ∙ append_assoc (separator m) (written_members m ys) (closing m ∷ w))) in
+      let (c, d) = members_same xs ys v w (append_cancel_left (separator m) _ _ (sym (append_assoc (separator m) (written_members m xs) (closing m ∷ v)) ∙ b ∙ append_assoc (separator m) (written_members m ys) (closing m ∷ w))) in
       (ap (λ z. more z xs) a ∙ ap (more j) c, d)
 
   set_same : (n o : Bool) (xs ys : Members m) (v w : List ℕ) → caret n ++ (written_members m xs ++ (closing m ∷ v)) ≡ caret o ++ (written_members m ys ++ (closing m ∷ w)) → set n xs ≡ set o ys
   set_same n o xs ys v w e =
       let same : n ≡ o = sym (caret_found m n xs (closing m ∷ v)) ∙ ap (starts 94) e ∙ caret_found m o ys (closing m ∷ w) in
-      let (a, _) = members_same xs ys v w (cancel (caret o) _ _ (ap (λ z. caret z ++ (written_members m xs ++ (closing m ∷ v))) (sym same) ∙ e)) in
+      let (a, _) = members_same xs ys v w (append_cancel_left (caret o) _ _ (ap (λ z. caret z ++ (written_members m xs ++ (closing m ∷ v))) (sym same) ∙ e)) in
       ap (λ z. set z xs) same ∙ ap (set o) a
 
   -- what is written behind the opening bracket
@@ -139,4 +131,4 @@ lexemes_same m [] (j ∷ js) e = let (b, u, f, _) = lexeme_head m j in absurd (n
 lexemes_same m (k ∷ ks) [] e = let (b, u, f, _) = lexeme_head m k in absurd (nil≢cons (sym e ∙ ap (λ z. z ++ flat_map (written_lexeme m) ks) f))
 lexemes_same m (k ∷ ks) (j ∷ js) e =
     let same = lexeme_same m k j (flat_map (written_lexeme m) ks) (flat_map (written_lexeme m) js) e in
-    ap (λ z. z ∷ ks) same ∙ ap (λ z. j ∷ z) (lexemes_same m ks js (cancel (written_lexeme m j) _ _ (ap (λ z. written_lexeme m z ++ flat_map (written_lexeme m) ks) (sym same) ∙ e)))
+    ap (λ z. z ∷ ks) same ∙ ap (λ z. j ∷ z) (lexemes_same m ks js (append_cancel_left (written_lexeme m j) _ _ (ap (λ z. written_lexeme m z ++ flat_map (written_lexeme m) ks) (sym same) ∙ e)))

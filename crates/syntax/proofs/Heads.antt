@@ -43,44 +43,39 @@ ending m Dash w = value m (close m w)
 ending m DashHalf w = half m (close m w)
 ending m Two w = close m w
 
-module _ (m : Mode) where
-  closes : (d : ℕ) → Good (run m (closers d) Atom d)
-  closes zero = refl
-  closes (suc d) = go m d (closes d)
-    where
-      go : (m : Mode) (d : ℕ) → Good (run m (closers d) Atom d) → Good (run m (41 ∷ closers d) Atom (suc d))
-      go Bytes d h = h
-      go Fields d h = h
-
-  closes_mark : (d : ℕ) → Good (run m (closers d) Marked d)
-  closes_mark zero = refl
-  closes_mark (suc d) = go m d (closes d)
-    where
-      go : (m : Mode) (d : ℕ) → Good (run m (closers d) Atom d) → Good (run m (41 ∷ closers d) Marked (suc d))
-      go Bytes d h = h
-      go Fields d h = h
+-- behind an atom or a mark the groups may be closed
+closes : (m : Mode) (x : Bool) (d : ℕ) → Good (run m (closers d) (form (behind x)) d)
+closes m true zero = refl
+closes m false zero = refl
+closes m x (suc d) = go m x (closes m false d)
+  where
+    go : (m : Mode) (x : Bool) → Good (run m (closers d) Atom d) → Good (run m (41 ∷ closers d) (form (behind x)) (suc d))
+    go Bytes true h = h
+    go Bytes false h = h
+    go Fields true h = h
+    go Fields false h = h
 
 ends_well : (m : Mode) (f : Form) (d : ℕ) → Good (run m (ending m f (closers d)) f d)
-ends_well m Atom d = closes m d
-ends_well m Marked d = closes_mark m d
-ends_well Bytes Need d = closes Bytes d
-ends_well Bytes Half d = closes Bytes d
-ends_well Bytes Opened d = closes Bytes d
-ends_well Bytes Member d = closes Bytes d
-ends_well Bytes MemberHalf d = closes Bytes d
-ends_well Bytes One d = closes Bytes d
-ends_well Bytes Dash d = closes Bytes d
-ends_well Bytes DashHalf d = closes Bytes d
-ends_well Bytes Two d = closes Bytes d
-ends_well Fields Need d = closes Fields d
-ends_well Fields Half d = closes Fields d
-ends_well Fields Opened d = closes Fields d
-ends_well Fields Member d = closes Fields d
-ends_well Fields MemberHalf d = closes Fields d
-ends_well Fields One d = closes Fields d
-ends_well Fields Dash d = closes Fields d
-ends_well Fields DashHalf d = closes Fields d
-ends_well Fields Two d = closes Fields d
+ends_well m Atom d = closes m false d
+ends_well m Marked d = closes m true d
+ends_well Bytes Need d = closes Bytes false d
+ends_well Bytes Half d = closes Bytes false d
+ends_well Bytes Opened d = closes Bytes false d
+ends_well Bytes Member d = closes Bytes false d
+ends_well Bytes MemberHalf d = closes Bytes false d
+ends_well Bytes One d = closes Bytes false d
+ends_well Bytes Dash d = closes Bytes false d
+ends_well Bytes DashHalf d = closes Bytes false d
+ends_well Bytes Two d = closes Bytes false d
+ends_well Fields Need d = closes Fields false d
+ends_well Fields Half d = closes Fields false d
+ends_well Fields Opened d = closes Fields false d
+ends_well Fields Member d = closes Fields false d
+ends_well Fields MemberHalf d = closes Fields false d
+ends_well Fields One d = closes Fields false d
+ends_well Fields Dash d = closes Fields false d
+ends_well Fields DashHalf d = closes Fields false d
+ends_well Fields Two d = closes Fields false d
 
 module _ (m : Mode) where
   pub run_append : (u v : List ℕ) (f : Form) (d : ℕ) → run m (u ++ v) f d ≡ onward (run m u f d) (run m v)

@@ -48,8 +48,8 @@ module _ (m : Mode) where
 
   -- a simple atom whose token is a set
   pub of_set : (n : Bool) (r : cursors.Members) (s : Simple m) (p : ℕ) (G : Simple m → Type 0) → Stands m (atom s) p (Set n r) → ((xs : Members m) → Before m (written_members m xs) r.lexer → r.lexer.place ≡ p + 1 + length (caret n) → G (set n xs)) → G s
-  of_set n r dot p G e f = let y : ◌≡◌ {A = ℕ} 0 1 = cc in absurd (omega arith)
-  of_set n r (unit a x) p G e f = let y : ◌≡◌ {A = ℕ} 0 1 = cc in absurd (omega arith)
+  of_set n r dot p G e f = absurd cc
+  of_set n r (unit a x) p G e f = absurd cc
   of_set n r (set o xs) p G (q, e, h, l) f =
       let same : n ≡ o = cc in
       let here : r ≡ q = cc in
@@ -66,5 +66,5 @@ sole_found (more (single x) xs) = ap sole (value_found Fields x (44 ∷ written_
 sole_found (more (range x y) xs) = ap (λ w. sole (value_of Fields w)) (append_assoc (written_value Fields x) (45 ∷ written_value Fields y) (44 ∷ written_members Fields xs)) ∙ ap sole (value_found Fields x (45 ∷ (written_value Fields y ++ (44 ∷ written_members Fields xs)))) ∙ not_sole _ 45 _
 
 pub fields_sole : (m : Mode) (n : Bool) (xs : Members m) (l : Lexer) (r : Option ℕ) → m ≡ Fields → n ≡ false → Before m (written_members m xs) l → r ≡ sole (value_of l.mode l.rest.now) → r ≡ bare_set m n xs
-fields_sole Bytes n xs l r m k h e = let y : ◌≡◌ {A = ℕ} 0 1 = cc in absurd (omega arith)
+fields_sole Bytes n xs l r m k h e = absurd cc
 fields_sole Fields n xs l r m k h e = e ∙ rw (h.mode_is, h.rest_is, k) (sole_found xs)

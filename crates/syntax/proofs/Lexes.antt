@@ -17,13 +17,13 @@ use Rattle.syntax.proofs.Complete.{Shape, whole, halves, shape, not_not, not_who
 use Rattle.syntax.proofs.Listing.{first_listed}
 
 pub plain_not : (b k : ℕ) → special b ≡ false → special k ≡ true → eqb b k ≡ false
-plain_not b k p q = ne_eqb b k (λ e. let z : true ≡ false = sym q ∙ ap special (sym e) ∙ p in let y : ◌≡◌ {A = ℕ} 0 1 = cc in omega arith)
+plain_not b k p q = ne_eqb b k (λ e. let z : true ≡ false = sym q ∙ ap special (sym e) ∙ p in cc)
 
 special_not : (b k : ℕ) → special b ≡ true → special k ≡ false → eqb b k ≡ false
-special_not b k p q = ne_eqb b k (λ e. let z : true ≡ false = sym p ∙ ap special e ∙ q in let y : ◌≡◌ {A = ℕ} 0 1 = cc in omega arith)
+special_not b k p q = ne_eqb b k (λ e. let z : true ≡ false = sym p ∙ ap special e ∙ q in cc)
 
 digit_not : (b k : ℕ) → digit b ≡ true → digit k ≡ false → eqb b k ≡ false
-digit_not b k p q = ne_eqb b k (λ e. let z : true ≡ false = sym p ∙ ap digit e ∙ q in let y : ◌≡◌ {A = ℕ} 0 1 = cc in omega arith)
+digit_not b k p q = ne_eqb b k (λ e. let z : true ≡ false = sym p ∙ ap digit e ∙ q in cc)
 
 pub value_found : (m : Mode) (x : Value m) (v : List ℕ) → value_of m (written_value m x ++ v) ≡ Some (code m x, v)
 value_found Bytes (plain b q) v = rw (plain_not b 92 q refl) refl
@@ -88,10 +88,6 @@ members_head m (more (range x y) xs) = let (b, u, e, h) = value_head m x in (b, 
 -- members do not begin with a byte that begins no value
 pub members_start : (m : Mode) (xs : Members m) (v : List ℕ) (b : ℕ) → begins m b ≡ Not → starts b (written_members m xs ++ v) ≡ false
 members_start m xs v b n = let (c, u, e, h) = members_head m xs in rw e (ne_eqb c b (λ q. h (ap (begins m) q ∙ n)))
-
-dash_not : (m : Mode) → begins m 45 ≡ Not
-dash_not Bytes = refl
-dash_not Fields = refl
 
 caret_not : (m : Mode) → begins m 94 ≡ Not
 caret_not Bytes = refl
@@ -165,7 +161,7 @@ pub data Head (m : Mode) (b : ℕ) (u : List ℕ) : Lexeme m → Type 0 where
 
 unit_first : (x : Value Bytes) → (b : ℕ) × (u : List ℕ) × (written_value Bytes x ≡ b ∷ u) × (sign_token b ≡ None) × (b ≡ 91 → ⊥)
 unit_first (plain b p) =
-    (b, [], refl, rw (plain_not b 40 p refl, plain_not b 41 p refl, plain_not b 124 p refl, plain_not b 42 p refl, plain_not b 43 p refl, plain_not b 63 p refl, plain_not b 46 p refl) refl, λ e. let z : true ≡ false = ap special (sym e) ∙ p in let y : ◌≡◌ {A = ℕ} 0 1 = cc in omega arith)
+    (b, [], refl, rw (plain_not b 40 p refl, plain_not b 41 p refl, plain_not b 124 p refl, plain_not b 42 p refl, plain_not b 43 p refl, plain_not b 63 p refl, plain_not b 46 p refl) refl, λ e. let z : true ≡ false = ap special (sym e) ∙ p in cc)
 unit_first (escaped b p) = (92, b ∷ [], refl, refl, λ e. omega arith)
 unit_first newline = (92, 110 ∷ [], refl, refl, λ e. omega arith)
 

@@ -1,6 +1,7 @@
 -- Branches as rows of items, and expressions as branches with | between them, from left to right. Assumes nothing.
-use Rattle.std.proofs.Common.{◌≡◌, ℕ, Bool, true, false, not, ◌||◌, eqb, ◌⊎◌, List, [], ◌∷◌, ◌++◌, sym, refl, ap, ◌∙◌, subst, inl, inr, ⊎_elim, arith}
+use Rattle.std.proofs.Common.{◌≡◌, ℕ, true, false, not, ◌||◌, eqb, ◌⊎◌, List, [], ◌∷◌, ◌++◌, sym, refl, ap, ◌∙◌, subst, inl, inr, ⊎_elim, arith}
 use Rattle.std.specs.List.{flat_map}
+use Rattle.std.proofs.Math.Bool.{or-true}
 use Rattle.std.proofs.lemmas.Bool.{eq-eqb}
 use Rattle.syntax.specs.declared.mode.Mode.{Mode}
 use Rattle.syntax.specs.declared.mode.Mode.TheVariants.{Bytes, Fields}
@@ -39,12 +40,8 @@ atom_begun Fields (simple (set n xs)) = (60, _, refl, (refl, refl))
 pub item_begun : {m : Mode} (i : Tree m item) → Begun (written i)
 item_begun {m} (marked a k) = begun_more (written a) (written_mark k) (atom_begun m a)
 
-or_true : (x : Bool) → (x || true) ≡ true
-or_true true = refl
-or_true false = refl
-
 stop_test : (b : ℕ) → (b ≡ 124) ⊎ (b ≡ 41) → (eqb b 124 || eqb b 41) ≡ true
-stop_test b = ⊎_elim (λ k. ap (λ z. z || eqb b 41) (eq-eqb b 124 k)) (λ k. ap (λ z. eqb b 124 || z) (eq-eqb b 41 k) ∙ or_true (eqb b 124))
+stop_test b = ⊎_elim (λ k. ap (λ z. z || eqb b 41) (eq-eqb b 124 k)) (λ k. ap (λ z. eqb b 124 || z) (eq-eqb b 41 k) ∙ or-true (eqb b 124))
 
 stops_unmarked : (v : List ℕ) → Stops v → Unmarked v
 stops_unmarked [] h = tt

@@ -1,5 +1,5 @@
 -- What the automaton reads to the end is a written expression. Assumes nothing.
-use Rattle.std.proofs.Common.{◌≡◌, ℕ, zero, suc, Bool, true, false, cond, ◌||◌, eqb, ◌⊎◌, List, [], ◌∷◌, ◌++◌, Some, None, Option, sym, refl, ap, ◌∙◌, ⊎_elim, append_assoc, append-nil, arith}
+use Rattle.std.proofs.Common.{◌≡◌, ℕ, zero, suc, Bool, true, false, cond, ◌||◌, eqb, ◌⊎◌, List, [], ◌∷◌, ◌++◌, Some, None, Option, sym, refl, ap, ◌∙◌, ⊎_elim, append_assoc, append-nil}
 use Rattle.std.proofs.lemmas.Bool.{eqb-true, or_cases, cond_both, false≢true}
 use Rattle.syntax.specs.declared.mode.Mode.{Mode}
 use Rattle.syntax.specs.declared.mode.Mode.TheVariants.{Bytes, Fields}
@@ -15,12 +15,12 @@ use Rattle.syntax.proofs.Complete.{Place, before, behind_atom, behind_mark}
 
 -- values from their bytes
 part_not_whole : (t : Bool) → cond t Part Not ≡ Whole → ⊥
-part_not_whole true e = let z : ◌≡◌ {A = ℕ} 0 1 = cc in omega arith
-part_not_whole false e = let z : ◌≡◌ {A = ℕ} 0 1 = cc in omega arith
+part_not_whole true e = cc
+part_not_whole false e = cc
 
 part_only : (t : Bool) → cond t Part Not ≡ Part → t ≡ true
 part_only true e = refl
-part_only false e = let z : ◌≡◌ {A = ℕ} 0 1 = cc in absurd (omega arith)
+part_only false e = absurd cc
 
 whole_value : (m : Mode) (b : ℕ) → begins m b ≡ Whole → (x : Value m) × (written_value m x ≡ b ∷ [])
 whole_value Bytes b e = go (special b) refl e
@@ -42,7 +42,7 @@ part_value Bytes a b e h = go (special a) e
 
     go : (t : Bool) → cond t (cond (eqb a 92) Part Not) Whole ≡ Part → (x : Value Bytes) × (written_value Bytes x ≡ a ∷ b ∷ [])
     go true e = second (eqb-true a 92 (part_only (eqb a 92) e))
-    go false e = let z : ◌≡◌ {A = ℕ} 0 1 = cc in absurd (omega arith)
+    go false e = absurd cc
 part_value Fields a b e h = (pair a b (part_only (digit a) e) h, refl)
 
 module _ (m : Mode) where

@@ -2,6 +2,7 @@
 use Rattle.std.proofs.Common.{◌≡◌, ℕ, ◌+◌, Bool, true, false, List, [], ◌∷◌, ◌++◌, length, take, drop, Some, None, option_map, Option, Result, ok_or, IsOkAnd, sym, refl, ap, ◌∙◌, subst, append_assoc, arith, MatchBool, IsSomeAnd}
 use Rattle.std.proofs.lemmas.List.{drop_at, take_at}
 use Rattle.std.proofs.lemmas.Bool.{eq-eqb, true≢false, MatchBool-at_true, MatchBool-at_false}
+use Rattle.regular.proofs.Words.{head_same, tail_same}
 use Rattle.refusal.specs.declared.Fault.{Fault}
 use Rattle.syntax.specs.declared.mode.Mode.{Mode}
 use Rattle.syntax.specs.declared.lexer.Lexer.{Lexer}
@@ -12,12 +13,6 @@ use Rattle.syntax.specs.Lexer.{Before, Left, Ate, Took, front, starts, until, va
 use Rattle.syntax.specs.Tokens.{Lexeme, IsSet, Stands, sign_token, written_lexeme}
 use Rattle.syntax.proofs.Options.{some_same, none_some}
 use Rattle.syntax.proofs.Lexes.{Head, sign_head, set_head, unit_head, lexeme_head, caret_found, closing_found, value_found}
-
-head_same : {b c : ℕ} {v w : List ℕ} → b ∷ v ≡ c ∷ w → b ≡ c
-head_same e = cc
-
-tail_same : {b c : ℕ} {v w : List ℕ} → b ∷ v ≡ c ∷ w → v ≡ w
-tail_same e = cc
 
 pub left_before : {m : Mode} {u w : List ℕ} {old new : Lexer} → Before m u old → Left w old new → Before m w new
 left_before h l = record { mode_is = l.kept.mode_is ∙ h.mode_is; rest_is = l.rest_is }

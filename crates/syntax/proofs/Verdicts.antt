@@ -24,15 +24,15 @@ use Rattle.syntax.proofs.Filled.{tree_filled, tree_size}
 
 first_none : (xs : List ℕ) → first xs ≡ None → xs ≡ []
 first_none [] e = refl
-first_none (x ∷ xs) e = let y : ◌≡◌ {A = ℕ} 0 1 = cc in absurd (omega arith)
+first_none (x ∷ xs) e = absurd cc
 
 -- no limit is broken just where no spot breaks one
 no_breach : (a b c d : Option ℕ) → breach_of a b c d ≡ None → (a ≡ None) × (b ≡ None) × (c ≡ None) × (d ≡ None)
 no_breach None None None None e = (refl, refl, refl, refl)
-no_breach (Some p) b c d e = let y : ◌≡◌ {A = ℕ} 0 1 = cc in absurd (omega arith)
-no_breach None (Some p) c d e = let y : ◌≡◌ {A = ℕ} 0 1 = cc in absurd (omega arith)
-no_breach None None (Some p) d e = let y : ◌≡◌ {A = ℕ} 0 1 = cc in absurd (omega arith)
-no_breach None None None (Some p) e = let y : ◌≡◌ {A = ℕ} 0 1 = cc in absurd (omega arith)
+no_breach (Some p) b c d e = absurd cc
+no_breach None (Some p) c d e = absurd cc
+no_breach None None (Some p) d e = absurd cc
+no_breach None None None (Some p) e = absurd cc
 
 pub no_spots : {m : Mode} (t : Tree m expression) → breach t ≡ None → (spots too_deep t ≡ []) × (spots reversed t ≡ []) × (spots empty_set t ≡ []) × (drop MOST_POSITIONS (spots position t) ≡ [])
 no_spots t e =
@@ -41,10 +41,10 @@ no_spots t e =
 
 ok_none : (o : Option Fault) → ◌≡◌ {A = Result (Unit {0}) Fault} (Ok tt) (or_ok o) → o ≡ None
 ok_none None e = refl
-ok_none (Some f) e = let y : ◌≡◌ {A = ℕ} 0 1 = cc in absurd (omega arith)
+ok_none (Some f) e = absurd cc
 
 err_some : (o : Option Fault) (f : Fault) → ◌≡◌ {A = Result (Unit {0}) Fault} (Err f) (or_ok o) → o ≡ Some f
-err_some None f e = let y : ◌≡◌ {A = ℕ} 0 1 = cc in absurd (omega arith)
+err_some None f e = absurd cc
 err_some (Some g) f e = ap Some (sym (inner e))
   where
     inner : ◌≡◌ {A = Result (Unit {0}) Fault} (Err f) (Err g) → f ≡ g

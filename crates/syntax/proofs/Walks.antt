@@ -4,8 +4,9 @@ use mathlib.Core.List.{nil≢cons}
 use Rattle.std.specs.Bool.{then_some}
 use Rattle.std.specs.List.{flat_map}
 use Rattle.std.specs.Option.{option_or}
+use Rattle.std.proofs.Math.Dec.{leb-suc-suc}
+use Rattle.std.proofs.lemmas.Grind.{flat_map-append}
 use Rattle.std.proofs.lemmas.Bool.{lt-leb, ltb-false, eq-eqb, eqb-true, false≢true}
-use Rattle.std.proofs.lemmas.Bool.Decides.{nat_tests}
 use Rattle.regular.specs.Positions.{some_below}
 use Rattle.syntax.specs.declared.mode.Mode.{Mode}
 use Rattle.syntax.specs.declared.limits.TheConstants.{DEEPEST, MOST_POSITIONS}
@@ -24,10 +25,6 @@ use Rattle.syntax.specs.declared.lexer.Lexer.{Lexer}
 use Rattle.syntax.specs.Parser.{nesting}
 use Rattle.syntax.specs.Limits.{Noted, part_of, depth_behind, or_ok, verdict_of, Checked}
 use Rattle.syntax.proofs.Lexes.{lexeme_head}
-
-pub joined_append : {A B : Type 0} (f : A → List B) (xs ys : List A) → flat_map f (xs ++ ys) ≡ flat_map f xs ++ flat_map f ys
-joined_append f [] ys = refl
-joined_append f (x ∷ xs) ys = ap (λ z. f x ++ z) (joined_append f xs ys) ∙ sym (append_assoc (f x) (flat_map f xs) (flat_map f ys))
 
 first_append : (xs ys : List ℕ) → first (xs ++ ys) ≡ option_or (first xs) (first ys)
 first_append [] ys = refl
@@ -65,11 +62,11 @@ module _ {m : Mode} where
 
   pub lexemes_spelled : {l : Level} (t : Tree m l) → spelled (lexemes t) ≡ written t
   lexemes_spelled (only b) = lexemes_spelled b
-  lexemes_spelled (or t b) = joined_append (written_lexeme m) (lexemes t) (bar ∷ lexemes b) ∙ ap (λ z. z ++ (124 ∷ spelled (lexemes b))) (lexemes_spelled t) ∙ ap (λ z. written t ++ (124 ∷ z)) (lexemes_spelled b)
+  lexemes_spelled (or t b) = flat_map-append (written_lexeme m) (lexemes t) (bar ∷ lexemes b) ∙ ap (λ z. z ++ (124 ∷ spelled (lexemes b))) (lexemes_spelled t) ∙ ap (λ z. written t ++ (124 ∷ z)) (lexemes_spelled b)
   lexemes_spelled (lone i) = lexemes_spelled i
-  lexemes_spelled (row b i) = joined_append (written_lexeme m) (lexemes b) (lexemes i) ∙ ap (λ z. z ++ spelled (lexemes i)) (lexemes_spelled b) ∙ ap (λ z. written b ++ z) (lexemes_spelled i)
-  lexemes_spelled (marked a k) = joined_append (written_lexeme m) (lexemes a) (mark_lexeme k) ∙ ap (λ z. z ++ spelled (mark_lexeme k)) (lexemes_spelled a) ∙ ap (λ z. written a ++ z) (mark_spelled m k)
-  lexemes_spelled (group t) = ap (λ z. 40 ∷ z) (joined_append (written_lexeme m) (lexemes t) (close_group ∷ []) ∙ ap (λ z. z ++ (41 ∷ [])) (lexemes_spelled t))
+  lexemes_spelled (row b i) = flat_map-append (written_lexeme m) (lexemes b) (lexemes i) ∙ ap (λ z. z ++ spelled (lexemes i)) (lexemes_spelled b) ∙ ap (λ z. written b ++ z) (lexemes_spelled i)
+  lexemes_spelled (marked a k) = flat_map-append (written_lexeme m) (lexemes a) (mark_lexeme k) ∙ ap (λ z. z ++ spelled (mark_lexeme k)) (lexemes_spelled a) ∙ ap (λ z. written a ++ z) (mark_spelled m k)
+  lexemes_spelled (group t) = ap (λ z. 40 ∷ z) (flat_map-append (written_lexeme m) (lexemes t) (close_group ∷ []) ∙ ap (λ z. z ++ (41 ∷ [])) (lexemes_spelled t))
   lexemes_spelled (simple s) = append-nil _
 
   -- the parts that lexemes begin, from the depth d and the place p on
@@ -115,11 +112,11 @@ module _ {m : Mode} where
   pub shallow : {l : Level} (t : Tree m l) (d p : ℕ) → d ≤ DEEPEST → flat_map too_deep (parts t d p) ≡ [] → nesting t + d ≤ DEEPEST
   shallow (only b) d p h e = shallow b d p h e
   shallow (or t b) d p h e =
-      let (x, y) = append_none (flat_map too_deep (parts t d p)) (flat_map too_deep (parts b d (p + length (written t) + 1))) (sym (joined_append too_deep (parts t d p) _) ∙ e) in
+      let (x, y) = append_none (flat_map too_deep (parts t d p)) (flat_map too_deep (parts b d (p + length (written t) + 1))) (sym (flat_map-append too_deep (parts t d p) _) ∙ e) in
       omega (arith, shallow t d p h x, shallow b d _ h y)
   shallow (lone i) d p h e = shallow i d p h e
   shallow (row b i) d p h e =
-      let (x, y) = append_none (flat_map too_deep (parts b d p)) (flat_map too_deep (parts i d (p + length (written b)))) (sym (joined_append too_deep (parts b d p) _) ∙ e) in
+      let (x, y) = append_none (flat_map too_deep (parts b d p)) (flat_map too_deep (parts i d (p + length (written b)))) (sym (flat_map-append too_deep (parts b d p) _) ∙ e) in
       omega (arith, shallow b d p h x, shallow i d _ h y)
   shallow (marked a k) d p h e = shallow a d p h e
   shallow (group t) d p h e =
@@ -173,39 +170,6 @@ module _ (m : Mode) (t : Token) (p : ℕ) (f : Findings) where
   abbrev pub Notes : Findings → Type 0
   Notes r = (k : Lexeme m) (done : List (Part m)) → Stands m k p t → Noted m f done → Noted m r (done ++ part_of k f.depth p) × (r.depth ≡ depth_behind k f.depth)
 
-  pub notes_open : (r : Findings) → t ≡ Open → ((done : List (Part m)) → Noted m f done → Noted m r (done ++ (group_at (f.depth + 1) p ∷ []))) → r.depth ≡ f.depth + 1 → Notes r
-  notes_open r is h d k done st n = go k (sym (ap kind is) ∙ same_kind k p t st)
-    where
-      go : (k : Lexeme m) → 0 ≡ kind_of k → Noted m r (done ++ part_of k f.depth p) × (r.depth ≡ depth_behind k f.depth)
-      go open_group e = (h done n, d)
-      go close_group e = absurd (omega arith)
-      go bar e = absurd (omega arith)
-      go (mark x) e = absurd (omega arith)
-      go (atom s) e = absurd (omega arith)
-
-  same_noted : (r : Findings) (done : List (Part m)) → Noted m r done → Noted m r (done ++ [])
-  same_noted r done n = subst (Noted m r) (sym (append-nil done)) n
-
-  pub notes_close : (r : Findings) → t ≡ Close → ((done : List (Part m)) → Noted m f done → Noted m r done) → r.depth ≡ f.depth - 1 → Notes r
-  notes_close r is h d k done st n = go k (sym (ap kind is) ∙ same_kind k p t st)
-    where
-      go : (k : Lexeme m) → 1 ≡ kind_of k → Noted m r (done ++ part_of k f.depth p) × (r.depth ≡ depth_behind k f.depth)
-      go open_group e = absurd (omega arith)
-      go close_group e = (same_noted r done (h done n), d)
-      go bar e = absurd (omega arith)
-      go (mark x) e = absurd (omega arith)
-      go (atom s) e = absurd (omega arith)
-
-  pub notes_other : kind t ≡ 2 → Notes f
-  notes_other is k done st n = go k (sym is ∙ same_kind k p t st)
-    where
-      go : (k : Lexeme m) → 2 ≡ kind_of k → Noted m f (done ++ part_of k f.depth p) × (f.depth ≡ depth_behind k f.depth)
-      go open_group e = absurd (omega arith)
-      go close_group e = absurd (omega arith)
-      go bar e = (same_noted f done n, refl)
-      go (mark x) e = (same_noted f done n, refl)
-      go (atom s) e = absurd (omega arith)
-
   pub notes_atom : (r : Findings) → kind t ≡ 3 → ((s : Simple m) (done : List (Part m)) → Stands m (atom s) p t → Noted m f done → Noted m r (done ++ (simple_at s p ∷ []))) → r.depth ≡ f.depth → Notes r
   notes_atom r is h d k done st n = go k (sym is ∙ same_kind k p t st) st
     where
@@ -219,16 +183,13 @@ module _ (m : Mode) (t : Token) (p : ℕ) (f : Findings) where
 -- one part more
 module _ {m : Mode} (g : Part m → List ℕ) (done : List (Part m)) (x : Part m) where
   joined_one : flat_map g (done ++ (x ∷ [])) ≡ flat_map g done ++ g x
-  joined_one = joined_append g done (x ∷ []) ∙ ap (λ z. flat_map g done ++ z) (append-nil (g x))
+  joined_one = flat_map-append g done (x ∷ []) ∙ ap (λ z. flat_map g done ++ z) (append-nil (g x))
 
   pub first_more : (a b : Option ℕ) → a ≡ first (flat_map g done) → b ≡ first (g x) → option_or a b ≡ first (flat_map g (done ++ (x ∷ [])))
   first_more a b p q = ap (λ z. option_or z b) p ∙ ap (option_or (first (flat_map g done))) q ∙ sym (ap first joined_one ∙ first_append (flat_map g done) (g x))
 
   pub first_same : (a : Option ℕ) → a ≡ first (flat_map g done) → g x ≡ [] → a ≡ first (flat_map g (done ++ (x ∷ [])))
   first_same a p e = p ∙ ap first (sym (append-nil _) ∙ ap (λ z. flat_map g done ++ z) (sym e) ∙ sym joined_one)
-
-leb_suc : (a b : ℕ) → leb (suc a) (suc b) ≡ leb a b
-leb_suc a b = grind (arith, nat_tests)
 
 drop_more_one : (n : ℕ) (xs : List ℕ) (x : ℕ) → first (drop n (xs ++ (x ∷ []))) ≡ option_or (first (drop n xs)) (then_some (leb n (length xs)) x)
 drop_more_one zero [] x = refl
@@ -238,32 +199,14 @@ drop_more_one (suc n) [] x = none n ∙ ap (λ b. then_some b x) (sym (lt-leb (s
     none : (n : ℕ) → first (drop n []) ≡ None
     none zero = refl
     none (suc n) = refl
-drop_more_one (suc n) (y ∷ xs) x = drop_more_one n xs x ∙ ap (λ b. option_or (first (drop n xs)) (then_some b x)) (sym (leb_suc n (length xs)))
+drop_more_one (suc n) (y ∷ xs) x = drop_more_one n xs x ∙ ap (λ b. option_or (first (drop n xs)) (then_some b x)) (sym (leb-suc-suc n (length xs)))
 
 -- what is noted of a group, and of a simple atom
-cond_first : (b : Bool) (p : ℕ) → then_some b p ≡ first (cond b (p ∷ []) [])
-cond_first true p = refl
-cond_first false p = refl
-
 not_first : (b : Bool) (p : ℕ) → then_some (not b) p ≡ first (cond b [] (p ∷ []))
 not_first true p = refl
 not_first false p = refl
 
 module _ {m : Mode} (f r : Findings) (done : List (Part m)) (n : Noted m f done) (p : ℕ) where
-  pub noted_group : (d : ℕ) → r.deep ≡ option_or f.deep (then_some (ltb DEEPEST d) p) → r.reversed ≡ f.reversed → r.empty ≡ f.empty → r.over ≡ f.over → r.positions ≡ f.positions → Noted m r (done ++ (group_at d p ∷ []))
-  noted_group d a b c e g =
-      let x = group_at d p in
-      record {
-        deep = a ∙ first_more too_deep done x _ _ n.deep (cond_first (ltb DEEPEST d) p);
-        reversed = first_same refusals.reversed done x _ (b ∙ n.reversed) refl;
-        empty = first_same refusals.empty_set done x _ (c ∙ n.empty) refl;
-        over = e ∙ n.over ∙ ap (λ z. first (drop MOST_POSITIONS z)) (sym (append-nil _) ∙ sym (joined_one position done x));
-        positions = g ∙ n.positions ∙ ap length (sym (append-nil _) ∙ sym (joined_one position done x));
-      }
-
-  pub noted_same : r.deep ≡ f.deep → r.reversed ≡ f.reversed → r.empty ≡ f.empty → r.over ≡ f.over → r.positions ≡ f.positions → Noted m r done
-  noted_same a b c e g = record { deep = a ∙ n.deep; reversed = b ∙ n.reversed; empty = c ∙ n.empty; over = e ∙ n.over; positions = g ∙ n.positions }
-
   pub noted_simple : (s : Simple m) (x : Option ℕ) (y : Bool) → r.deep ≡ f.deep → x ≡ first (reversed_simple m s p) → y ≡ not (some_below (top m + 1) (holds m s)) → r.reversed ≡ option_or f.reversed x → r.empty ≡ option_or f.empty (then_some y p) → r.over ≡ option_or f.over (then_some (leb MOST_POSITIONS f.positions) p) → r.positions ≡ f.positions + 1 → Noted m r (done ++ (simple_at s p ∷ []))
   noted_simple s x y a u v b c e g =
       let z = simple_at s p in

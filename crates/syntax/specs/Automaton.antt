@@ -97,14 +97,6 @@ run m (b ∷ bs) f d = onward (step m f d b) (run m bs)
 
 -- an expression may end there
 abbrev pub final : Form → ℕ → Bool
-final Need d = false
 final Atom d = d == 0
 final Marked d = d == 0
-final Half d = false
-final Opened d = false
-final Member d = false
-final MemberHalf d = false
-final One d = false
-final Dash d = false
-final DashHalf d = false
-final Two d = false
+final f d = false
