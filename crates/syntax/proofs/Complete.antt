@@ -1,15 +1,16 @@
 -- The automaton reads every written expression. Assumes nothing.
-use Rattle.std.proofs.Common.{◌≡◌, ℕ, suc, Bool, true, false, cond, eqb, List, [], ◌∷◌, ◌++◌, Some, None, Option, refl, ap, ◌∙◌, append_assoc, arith}
+use Rattle.std.proofs.Common.{◌≡◌, ℕ, suc, Bool, true, false, cond, eqb, List, [], ◌∷◌, ◌++◌, Some, None, Option, refl, ap, ◌∙◌, append_assoc}
 use Rattle.std.proofs.lemmas.Bool.{ne_eqb}
 use Rattle.syntax.specs.declared.mode.Mode.{Mode}
 use Rattle.syntax.specs.declared.mode.Mode.TheVariants.{Bytes, Fields}
 use Rattle.syntax.specs.declared.grammar.Form.{Form}
+use Rattle.syntax.specs.declared.grammar.State.{State}
 use Rattle.syntax.specs.declared.grammar.Form.TheVariants.{Need, Atom, Marked, Half, Opened, Member, MemberHalf, One, Dash, DashHalf, Two}
 use Rattle.syntax.specs.declared.grammar.Begun.{Begun}
 use Rattle.syntax.specs.declared.grammar.Begun.TheVariants.{Not, Part, Whole}
 use Rattle.syntax.specs.Grammar.{plain, escaped, newline, pair, Value, single, range, Members, last, more, dot, unit, set, once, any, some_times, perhaps, Mark, Tree, Level, only, or, lone, row, marked, group, simple, closing, separator, written_value, written_member, written_members, written_simple, written_mark, written}
 use Rattle.syntax.specs.Grammar as syntax
-use Rattle.syntax.specs.Automaton.{begins, ends, State, pick, start, finish, step, onward, run}
+use Rattle.syntax.specs.Automaton.{begins, ends, state, pick, start, finish, step, onward, run}
 
 -- outside sets: before an item, behind an atom, behind a mark
 pub data Place : Type 0 where
@@ -36,13 +37,13 @@ shape Bytes newline = halves 92 110 refl refl refl
 shape Fields (pair a b p q) = halves a b (ap (λ t. cond t Part Not) p) q refl
 
 pub not_not : {x : Begun} → x ≡ Part → x ≡ Not → ⊥
-not_not {x} e f = let z : ◌≡◌ {A = ℕ} 0 1 = cc in omega arith
+not_not {x} e f = cc
 
 pub not_whole : {x : Begun} → x ≡ Whole → x ≡ Not → ⊥
-not_whole {x} e f = let z : ◌≡◌ {A = ℕ} 0 1 = cc in omega arith
+not_whole {x} e f = cc
 
 module _ (m : Mode) (d : ℕ) where
-  pub went : (f : Form) (b : ℕ) {g : Form} {e : ℕ} (w : List ℕ) → step m f d b ≡ Some (g, e) → run m (b ∷ w) f d ≡ run m w g e
+  pub went : (f : Form) (b : ℕ) {g : Form} {e : ℕ} (w : List ℕ) → step m f d b ≡ Some (state g e) → run m (b ∷ w) f d ≡ run m w g e
   went f b w e = ap (λ s. onward s (run m w)) e
 
   -- in the form f a value has to begin, or may
@@ -53,9 +54,9 @@ module _ (m : Mode) (d : ℕ) where
   value x f h g s t w = go (written_value m x) (shape m x)
     where
       go : (u : List ℕ) → Shape m u → run m (u ++ w) f d ≡ run m w g d
-      go u (whole b p e) = rw e (went f b w (s b (not_whole p) ∙ ap (λ z. pick z None (Some (h, d)) (Some (g, d))) p))
+      go u (whole b p e) = rw e (went f b w (s b (not_whole p) ∙ ap (λ z. pick z None (Some (state h d)) (Some (state g d))) p))
       go u (halves a b p q e) =
-          rw e (went f a (b ∷ w) (s a (not_not p) ∙ ap (λ z. pick z None (Some (h, d)) (Some (g, d))) p) ∙ went h b w (t b ∙ ap (λ z. cond z (Some (g, d)) None) q))
+          rw e (went f a (b ∷ w) (s a (not_not p) ∙ ap (λ z. pick z None (Some (state h d)) (Some (state g d))) p) ∙ went h b w (t b ∙ ap (λ z. cond z (Some (state g d)) None) q))
 
   values_differ : (k b : ℕ) → begins m k ≡ Not → (begins m b ≡ Not → ⊥) → eqb b k ≡ false
   values_differ k b p h = ne_eqb b k (λ e. h (ap (begins m) e ∙ p))
@@ -66,14 +67,14 @@ module _ (m : Mode) (d : ℕ) where
 
 module _ (d : ℕ) where
   opened_starts : (m : Mode) → Starts m d Opened
-  opened_starts Bytes b h = ap (λ t. cond t (Some (Member, d)) (start Bytes b MemberHalf One d)) (values_differ Bytes d 94 b refl h)
-  opened_starts Fields b h = ap (λ t. cond t (Some (Member, d)) (start Fields b MemberHalf One d)) (values_differ Fields d 94 b refl h)
+  opened_starts Bytes b h = ap (λ t. cond t (Some (state Member d)) (start Bytes b MemberHalf One d)) (values_differ Bytes d 94 b refl h)
+  opened_starts Fields b h = ap (λ t. cond t (Some (state Member d)) (start Fields b MemberHalf One d)) (values_differ Fields d 94 b refl h)
 
   two_starts : Starts Bytes d Two
-  two_starts b h = ap (λ t. cond t (Some (Atom, d)) (start Bytes b MemberHalf One d)) (values_differ Bytes d 93 b refl h)
+  two_starts b h = ap (λ t. cond t (Some (state Atom d)) (start Bytes b MemberHalf One d)) (values_differ Bytes d 93 b refl h)
 
   one_starts : Starts Bytes d One
-  one_starts b h = ap (λ t. cond t (Some (Dash, d)) (step Bytes Two d b)) (values_differ Bytes d 45 b refl h) ∙ two_starts b h
+  one_starts b h = ap (λ t. cond t (Some (state Dash d)) (step Bytes Two d b)) (values_differ Bytes d 45 b refl h) ∙ two_starts b h
 
   member_starts : (m : Mode) → Starts m d Member
   member_starts m b h = refl
@@ -106,10 +107,10 @@ module _ (d : ℕ) where
       between Fields xs (single x) h = h Member (member_starts Fields) w
       between Fields xs (range x y) h = h Member (member_starts Fields) w
 
-  picked : (x : Option State) (b : ℕ) → (begins Bytes b ≡ Not → ⊥) → pick (begins Bytes b) x (Some (Half, d)) (Some (Atom, d)) ≡ start Bytes b Half Atom d
+  picked : (x : Option State) (b : ℕ) → (begins Bytes b ≡ Not → ⊥) → pick (begins Bytes b) x (Some (state Half d)) (Some (state Atom d)) ≡ start Bytes b Half Atom d
   picked x b h = go (begins Bytes b) h
     where
-      go : (z : Begun) → (z ≡ Not → ⊥) → pick z x (Some (Half, d)) (Some (Atom, d)) ≡ pick z None (Some (Half, d)) (Some (Atom, d))
+      go : (z : Begun) → (z ≡ Not → ⊥) → pick z x (Some (state Half d)) (Some (state Atom d)) ≡ pick z None (Some (state Half d)) (Some (state Atom d))
       go Not h = absurd (h refl)
       go Part h = refl
       go Whole h = refl

@@ -3,6 +3,8 @@ use Rattle.std.proofs.Common.{◌≡◌, ℕ, ◌+◌, ◌≤◌, Bool, true, fa
 use mathlib.Core.List.{nil≢cons}
 use Rattle.std.specs.List.{flat_map}
 use Rattle.std.proofs.lemmas.Bool.{and_parts}
+use Rattle.std.proofs.lemmas.Grind.{flat_map-append}
+use Rattle.std.specs.Cmp.Derive.{both_true}
 use Rattle.regular.specs.Language.{Regex, one, join, either, star, plus, maybe, Inhabited}
 use Rattle.regular.specs.Positions.{some_below, size}
 use Rattle.syntax.specs.declared.mode.Mode.{Mode}
@@ -10,8 +12,7 @@ use Rattle.syntax.specs.declared.tree.Node.{Node}
 use Rattle.syntax.specs.Grammar.{Mark, once, any, some_times, perhaps, Level, Tree, only, or, lone, row, marked, group, simple, repeated, written, meaning, holds, top, parts}
 use Rattle.syntax.specs.Refusals.{empty_set, position}
 use Rattle.syntax.specs.Tree.{some_code, filled, full, language}
-use Rattle.syntax.proofs.Walks.{joined_append, append_none}
-use Rattle.syntax.proofs.Meant.{both_true}
+use Rattle.syntax.proofs.Walks.{append_none}
 use Rattle.syntax.proofs.Tables.{some_below_is, top_low}
 
 some_code_is : (s : ℕ → Bool) → some_code s ≡ true → (c : ℕ) × (s c ≡ true)
@@ -51,12 +52,12 @@ module _ {m : Mode} where
   pub tree_filled : {l : Level} (t : Tree m l) (d p : ℕ) → flat_map empty_set (parts t d p) ≡ [] → filled (meaning t) ≡ true
   tree_filled (only b) d p e = tree_filled b d p e
   tree_filled (or t b) d p e =
-      let (x, y) = append_none (flat_map empty_set (parts t d p)) (flat_map empty_set (parts b d (p + length (written t) + 1))) (sym (joined_append empty_set (parts t d p) _) ∙ e) in
-      both_true (filled (meaning t)) (filled (meaning b)) (tree_filled t d p x) (tree_filled b d _ y)
+      let (x, y) = append_none (flat_map empty_set (parts t d p)) (flat_map empty_set (parts b d (p + length (written t) + 1))) (sym (flat_map-append empty_set (parts t d p) _) ∙ e) in
+      both_true (tree_filled t d p x) (tree_filled b d _ y)
   tree_filled (lone i) d p e = tree_filled i d p e
   tree_filled (row b i) d p e =
-      let (x, y) = append_none (flat_map empty_set (parts b d p)) (flat_map empty_set (parts i d (p + length (written b)))) (sym (joined_append empty_set (parts b d p) _) ∙ e) in
-      both_true (filled (meaning b)) (filled (meaning i)) (tree_filled b d p x) (tree_filled i d _ y)
+      let (x, y) = append_none (flat_map empty_set (parts b d p)) (flat_map empty_set (parts i d (p + length (written b)))) (sym (flat_map-append empty_set (parts b d p) _) ∙ e) in
+      both_true (tree_filled b d p x) (tree_filled i d _ y)
   tree_filled (marked a k) d p e = repeated_filled k (meaning a) ∙ tree_filled a d p e
   tree_filled (group t) d p e = tree_filled t (d + 1) (p + 1) e
   tree_filled (simple s) d p e = some_code_from (holds m s) (top m + 1) (omega (arith, top_low m)) (go (some_below (top m + 1) (holds m s)) (sym (append-nil _) ∙ e))
@@ -69,10 +70,10 @@ module _ {m : Mode} where
   pub tree_size : {l : Level} (t : Tree m l) (d p : ℕ) → size (meaning t) ≡ length (flat_map position (parts t d p))
   tree_size (only b) d p = tree_size b d p
   tree_size (or t b) d p =
-      omega (arith, tree_size t d p, tree_size b d (p + length (written t) + 1), ap length (joined_append position (parts t d p) (parts b d (p + length (written t) + 1))), length-append (flat_map position (parts t d p)) (flat_map position (parts b d (p + length (written t) + 1))))
+      omega (arith, tree_size t d p, tree_size b d (p + length (written t) + 1), ap length (flat_map-append position (parts t d p) (parts b d (p + length (written t) + 1))), length-append (flat_map position (parts t d p)) (flat_map position (parts b d (p + length (written t) + 1))))
   tree_size (lone i) d p = tree_size i d p
   tree_size (row b i) d p =
-      omega (arith, tree_size b d p, tree_size i d (p + length (written b)), ap length (joined_append position (parts b d p) (parts i d (p + length (written b)))), length-append (flat_map position (parts b d p)) (flat_map position (parts i d (p + length (written b)))))
+      omega (arith, tree_size b d p, tree_size i d (p + length (written b)), ap length (flat_map-append position (parts b d p) (parts i d (p + length (written b)))), length-append (flat_map position (parts b d p)) (flat_map position (parts i d (p + length (written b)))))
   tree_size (marked a k) d p = repeated_size k (meaning a) ∙ tree_size a d p
   tree_size (group t) d p = tree_size t (d + 1) (p + 1)
   tree_size (simple s) d p = refl

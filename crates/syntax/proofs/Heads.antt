@@ -1,16 +1,15 @@
 -- The automaton accepts what is in the grammar, and lives on the heads of expressions. Assumes nothing.
-use Rattle.std.proofs.Common.{◌≡◌, ℕ, zero, suc, ◌+◌, ◌<◌, ◌≤◌, Bool, true, false, cond, ◌||◌, eqb, List, [], ◌∷◌, ◌++◌, length, get_or, take, drop, Some, None, Option, sym, refl, ap, ◌∙◌, subst, append_assoc, append-nil, arith, take-append-drop}
+use Rattle.std.proofs.Common.{◌≡◌, ℕ, zero, suc, ◌+◌, ◌<◌, ◌≤◌, Bool, true, false, List, [], ◌∷◌, ◌++◌, length, get_or, take, drop, Some, None, Option, sym, refl, ap, ◌∙◌, subst, append_assoc, append-nil, arith, take-append-drop}
 use Rattle.std.proofs.lemmas.List.{take-take, take_more, take_all}
 use Rattle.std.proofs.lemmas.Bool.{false≢true}
 use Rattle.syntax.specs.declared.mode.Mode.{Mode}
 use Rattle.syntax.specs.declared.mode.Mode.TheVariants.{Bytes, Fields}
 use Rattle.syntax.specs.declared.grammar.Form.{Form}
+use Rattle.syntax.specs.declared.grammar.State.{State}
 use Rattle.syntax.specs.declared.grammar.Form.TheVariants.{Need, Atom, Marked, Half, Opened, Member, MemberHalf, One, Dash, DashHalf, Two}
-use Rattle.syntax.specs.Grammar.{Tree, expression, written, opening}
+use Rattle.syntax.specs.Grammar.{Tree, expression, written}
 use Rattle.syntax.specs.Refusals.{Begins, OutsideGrammar}
-use Rattle.syntax.specs.declared.grammar.Begun.{Begun}
-use Rattle.syntax.specs.declared.grammar.Begun.TheVariants.{Not, Part, Whole}
-use Rattle.syntax.specs.Automaton.{State, begins, ends, pick, start, finish, further, closed, sign, outside, step, onward, run, final}
+use Rattle.syntax.specs.Automaton.{state, step, onward, run, final}
 use Rattle.syntax.proofs.Complete.{before, behind, form, ended, reads}
 use Rattle.syntax.proofs.Sound.{Good, tree_of}
 
@@ -44,44 +43,39 @@ ending m Dash w = value m (close m w)
 ending m DashHalf w = half m (close m w)
 ending m Two w = close m w
 
-module _ (m : Mode) where
-  closes : (d : ℕ) → Good (run m (closers d) Atom d)
-  closes zero = refl
-  closes (suc d) = go m d (closes d)
-    where
-      go : (m : Mode) (d : ℕ) → Good (run m (closers d) Atom d) → Good (run m (41 ∷ closers d) Atom (suc d))
-      go Bytes d h = h
-      go Fields d h = h
-
-  closes_mark : (d : ℕ) → Good (run m (closers d) Marked d)
-  closes_mark zero = refl
-  closes_mark (suc d) = go m d (closes d)
-    where
-      go : (m : Mode) (d : ℕ) → Good (run m (closers d) Atom d) → Good (run m (41 ∷ closers d) Marked (suc d))
-      go Bytes d h = h
-      go Fields d h = h
+-- behind an atom or a mark the groups may be closed
+closes : (m : Mode) (x : Bool) (d : ℕ) → Good (run m (closers d) (form (behind x)) d)
+closes m true zero = refl
+closes m false zero = refl
+closes m x (suc d) = go m x (closes m false d)
+  where
+    go : (m : Mode) (x : Bool) → Good (run m (closers d) Atom d) → Good (run m (41 ∷ closers d) (form (behind x)) (suc d))
+    go Bytes true h = h
+    go Bytes false h = h
+    go Fields true h = h
+    go Fields false h = h
 
 ends_well : (m : Mode) (f : Form) (d : ℕ) → Good (run m (ending m f (closers d)) f d)
-ends_well m Atom d = closes m d
-ends_well m Marked d = closes_mark m d
-ends_well Bytes Need d = closes Bytes d
-ends_well Bytes Half d = closes Bytes d
-ends_well Bytes Opened d = closes Bytes d
-ends_well Bytes Member d = closes Bytes d
-ends_well Bytes MemberHalf d = closes Bytes d
-ends_well Bytes One d = closes Bytes d
-ends_well Bytes Dash d = closes Bytes d
-ends_well Bytes DashHalf d = closes Bytes d
-ends_well Bytes Two d = closes Bytes d
-ends_well Fields Need d = closes Fields d
-ends_well Fields Half d = closes Fields d
-ends_well Fields Opened d = closes Fields d
-ends_well Fields Member d = closes Fields d
-ends_well Fields MemberHalf d = closes Fields d
-ends_well Fields One d = closes Fields d
-ends_well Fields Dash d = closes Fields d
-ends_well Fields DashHalf d = closes Fields d
-ends_well Fields Two d = closes Fields d
+ends_well m Atom d = closes m false d
+ends_well m Marked d = closes m true d
+ends_well Bytes Need d = closes Bytes false d
+ends_well Bytes Half d = closes Bytes false d
+ends_well Bytes Opened d = closes Bytes false d
+ends_well Bytes Member d = closes Bytes false d
+ends_well Bytes MemberHalf d = closes Bytes false d
+ends_well Bytes One d = closes Bytes false d
+ends_well Bytes Dash d = closes Bytes false d
+ends_well Bytes DashHalf d = closes Bytes false d
+ends_well Bytes Two d = closes Bytes false d
+ends_well Fields Need d = closes Fields false d
+ends_well Fields Half d = closes Fields false d
+ends_well Fields Opened d = closes Fields false d
+ends_well Fields Member d = closes Fields false d
+ends_well Fields MemberHalf d = closes Fields false d
+ends_well Fields One d = closes Fields false d
+ends_well Fields Dash d = closes Fields false d
+ends_well Fields DashHalf d = closes Fields false d
+ends_well Fields Two d = closes Fields false d
 
 module _ (m : Mode) where
   pub run_append : (u v : List ℕ) (f : Form) (d : ℕ) → run m (u ++ v) f d ≡ onward (run m u f d) (run m v)
@@ -90,20 +84,20 @@ module _ (m : Mode) where
     where
       go : (r : Option State) → ((f : Form) (d : ℕ) → run m (u ++ v) f d ≡ onward (run m u f d) (run m v)) → onward r (run m (u ++ v)) ≡ onward (onward r (run m u)) (run m v)
       go None h = refl
-      go (Some s) h = h s.0 s.1
+      go (Some s) h = h s.form s.depth
 
   -- the run over the bytes from the start
   abbrev pub reached : List ℕ → Option State
   reached w = run m w Need 0
 
-  pub live_begins : (w : List ℕ) (f : Form) (d : ℕ) → reached w ≡ Some (f, d) → Begins m w
+  pub live_begins : (w : List ℕ) (f : Form) (d : ℕ) → reached w ≡ Some (state f d) → Begins m w
   live_begins w f d e =
       let u = ending m f (closers d) in
       let k : reached (w ++ u) ≡ run m u f d = run_append w u Need 0 ∙ ap (λ r. onward r (run m u)) e in
       let (t, l) = tree_of m (w ++ u) (subst Good (sym k) (ends_well m f d)) in
       (t, u, l)
 
-  pub tree_reached : (t : Tree m expression) → reached (written t) ≡ Some (form (behind (ended t)), 0)
+  pub tree_reached : (t : Tree m expression) → reached (written t) ≡ Some (state (form (behind (ended t))) 0)
   tree_reached t = ap (λ w. reached w) (sym (append-nil (written t))) ∙ reads t before 0 []
 
   pub dead : (u v : List ℕ) → reached u ≡ None → Begins m (u ++ v) → ⊥
@@ -114,7 +108,7 @@ module _ (m : Mode) where
       omega arith
 
   -- the automaton stops at p
-  pub stuck : (w : List ℕ) (p : ℕ) (f : Form) (d : ℕ) → p < length w → reached (take p w) ≡ Some (f, d) → step m f d (get_or w p 0) ≡ None → OutsideGrammar m w p
+  pub stuck : (w : List ℕ) (p : ℕ) (f : Form) (d : ℕ) → p < length w → reached (take p w) ≡ Some (state f d) → step m f d (get_or w p 0) ≡ None → OutsideGrammar m w p
   stuck w p f d l e s = record {
     no_tree = λ t k. dead (take (p + 1) w) (drop (p + 1) w) next (t, [], k ∙ sym (take-append-drop (p + 1) w) ∙ sym (append-nil _));
     within = omega arith;
@@ -133,7 +127,7 @@ module _ (m : Mode) where
       go false = refl
 
   -- or comes to the end where no expression may end
-  pub unfinished : (w : List ℕ) (f : Form) (d : ℕ) → reached w ≡ Some (f, d) → final f d ≡ false → OutsideGrammar m w (length w)
+  pub unfinished : (w : List ℕ) (f : Form) (d : ℕ) → reached w ≡ Some (state f d) → final f d ≡ false → OutsideGrammar m w (length w)
   unfinished w f d e n = record {
     no_tree = λ t k. let g = subst (λ z. Good (reached z)) k (final_tree t) in false≢true (sym n ∙ subst Good e g);
     within = omega arith;
@@ -141,81 +135,26 @@ module _ (m : Mode) where
     longest = λ q lt le _. omega arith;
   }
 
-  pub accepted : (w : List ℕ) (f : Form) (d : ℕ) → reached w ≡ Some (f, d) → final f d ≡ true → (t : Tree m expression) × (written t ≡ w)
+  pub accepted : (w : List ℕ) (f : Form) (d : ℕ) → reached w ≡ Some (state f d) → final f d ≡ true → (t : Tree m expression) × (written t ≡ w)
   accepted w f d e k = tree_of m w (subst Good (sym e) k)
-
--- a byte opens one group at most
-module _ (d : ℕ) where
-  abbrev Low : Option State → Type 0
-  Low None = Unit {0}
-  Low (Some s) = s.1 ≤ d + 1
-
-  low_pick : (z : Begun) (x y w : Option State) → Low x → Low y → Low w → Low (pick z x y w)
-  low_pick Not x y w p q r = p
-  low_pick Part x y w p q r = q
-  low_pick Whole x y w p q r = r
-
-  low_cond : (t : Bool) (x y : Option State) → Low x → Low y → Low (cond t x y)
-  low_cond true x y p q = p
-  low_cond false x y p q = q
-
-  low : (f : Form) → Low (Some (f, d))
-  low f = omega arith
-
-  low_start : (m : Mode) (b : ℕ) (h g : Form) → Low (start m b h g d)
-  low_start m b h g = low_pick (begins m b) _ _ _ tt (low h) (low g)
-
-  low_finish : (m : Mode) (b : ℕ) (g : Form) → Low (finish m b g d)
-  low_finish m b g = low_cond (ends m b) _ _ (low g) tt
-
-  low_further : (m : Mode) (b : ℕ) → Low (further m b d)
-  low_further Bytes b = low_cond (eqb b 93) _ _ (low Atom) (low_start Bytes b MemberHalf One)
-  low_further Fields b = low_cond (eqb b 62) _ _ (low Atom) (low_cond (eqb b 44) _ _ (low Member) tt)
-
-  low_sign : (m : Mode) (b : ℕ) (x y z : Option State) → Low x → Low y → Low z → Low (sign m b x y z d)
-  low_sign m b x y z p q r =
-      low_cond (eqb b 40) _ _ (omega arith) (low_cond (eqb b 41) _ _ p (low_cond (eqb b 124) _ _ q (low_cond (eqb b 42 || (eqb b 43 || eqb b 63)) _ _ r (low_cond (eqb b 46) _ _ (low Atom) (low_cond (eqb b (opening m)) _ _ (low Opened) tt)))))
-
-  low_outside : (m : Mode) (b : ℕ) (x y z : Option State) → Low x → Low y → Low z → Low (outside m b x y z d)
-  low_outside Bytes b x y z p q r = low_pick (begins Bytes b) _ _ _ (low_sign Bytes b x y z p q r) (low Half) (low Atom)
-  low_outside Fields b x y z p q r = low_sign Fields b x y z p q r
-
-low_closed : (d : ℕ) → Low d (closed d)
-low_closed zero = tt
-low_closed (suc d) = omega arith
-
-pub low_step : (m : Mode) (f : Form) (d b : ℕ) → Low d (step m f d b)
-low_step m Need d b = low_outside d m b _ _ _ tt tt tt
-low_step m Atom d b = low_outside d m b _ _ _ (low_closed d) (low d Need) (low d Marked)
-low_step m Marked d b = low_outside d m b _ _ _ (low_closed d) (low d Need) tt
-low_step m Half d b = low_finish d m b Atom
-low_step m Opened d b = low_cond d (eqb b 94) _ _ (low d Member) (low_start d m b MemberHalf One)
-low_step m Member d b = low_start d m b MemberHalf One
-low_step m MemberHalf d b = low_finish d m b One
-low_step m One d b = low_cond d (eqb b 45) _ _ (low d Dash) (low_further d m b)
-low_step m Dash d b = low_start d m b DashHalf Two
-low_step m DashHalf d b = low_finish d m b Two
-low_step m Two d b = low_further d m b
 
 -- the state of the loop, before the byte at p
 pub record Reading (m : Mode) (w : List ℕ) (f : Form) (d p : ℕ) : Type 0 where
-  pub within : p ≤ length w
   pub low : d ≤ p
-  pub so_far : reached m (take p w) ≡ Some (f, d)
+  pub so_far : reached m (take p w) ≡ Some (state f d)
 
-pub one_more : (m : Mode) (w : List ℕ) (f g : Form) (d e p : ℕ) → Reading m w f d p → p < length w → Some (g, e) ≡ step m f d (get_or w p 0) → Reading m w g e (p + 1)
-one_more m w f g d e p h l s = record {
-  within = omega arith;
-  low = let k = subst (Low d) (sym s) (low_step m f d (get_or w p 0)) in omega (arith, h.low, k);
+pub one_more : (m : Mode) (w : List ℕ) (f g : Form) (d e p : ℕ) → Reading m w f d p → p < length w → Some (state g e) ≡ step m f d (get_or w p 0) → e ≤ d + 1 → Reading m w g e (p + 1)
+one_more m w f g d e p h l s k = record {
+  low = omega (arith, h.low, k);
   so_far = ap (λ z. reached m z) (take_more w p 0 l) ∙ run_append m (take p w) (get_or w p 0 ∷ []) Need 0 ∙ ap (λ z. onward z (run m (get_or w p 0 ∷ []))) h.so_far ∙ ap (λ z. onward z (run m [])) (sym s);
 }
 
 module _ (m : Mode) (w : List ℕ) (f : Form) (d p : ℕ) (h : Reading m w f d p) (l : length w ≤ p) where
-  all_read : reached m w ≡ Some (f, d)
+  all_read : reached m w ≡ Some (state f d)
   all_read = ap (λ z. reached m z) (sym (take_all p w l)) ∙ h.so_far
 
   pub read_whole : true ≡ final f d → (t : Tree m expression) × (written t ≡ w)
   read_whole e = accepted m w f d all_read (sym e)
 
-  pub read_short : false ≡ final f d → OutsideGrammar m w p
-  read_short e = let k : length w ≡ p = omega (arith, h.within) in subst (OutsideGrammar m w) k (unfinished m w f d all_read (sym e))
+  pub read_short : false ≡ final f d → OutsideGrammar m w (length w)
+  read_short e = unfinished m w f d all_read (sym e)

@@ -1,8 +1,8 @@
 -- What an Option holds is one value, or none. Assumes nothing.
-use Rattle.std.proofs.Common.{◌≡◌, ℕ, Some, None, Option, arith}
+use Rattle.std.proofs.Common.{◌≡◌, Some, None, Option}
 
 pub some_same : {A : Type 0} {x y : A} → Some x ≡ Some y → x ≡ y
 some_same e = cc
 
 pub none_some : {A B : Type 0} {x : A} → ◌≡◌ {A = Option A} None (Some x) → B
-none_some e = let y : ◌≡◌ {A = ℕ} 0 1 = cc in absurd (omega arith)
+none_some e = absurd cc

@@ -1,18 +1,18 @@
 -- Branches as rows of items, and expressions as branches with | between them, from left to right. Assumes nothing.
-use Rattle.std.proofs.Common.{◌≡◌, ℕ, Bool, true, false, not, ◌||◌, eqb, ◌⊎◌, List, [], ◌∷◌, ◌++◌, length, drop, Result, sym, refl, ap, ◌∙◌, subst, inl, inr, ⊎_elim, arith, length-drop}
+use Rattle.std.proofs.Common.{◌≡◌, ℕ, true, false, not, ◌||◌, eqb, ◌⊎◌, List, [], ◌∷◌, ◌++◌, sym, refl, ap, ◌∙◌, subst, inl, inr, ⊎_elim, arith}
 use Rattle.std.specs.List.{flat_map}
-use Rattle.std.proofs.lemmas.Bool.{lt-ltb, le-ltb, eq-eqb}
-use Rattle.refusal.specs.declared.Fault.{Fault}
+use Rattle.std.proofs.Math.Bool.{or-true}
+use Rattle.std.proofs.lemmas.Bool.{eq-eqb}
 use Rattle.syntax.specs.declared.mode.Mode.{Mode}
 use Rattle.syntax.specs.declared.mode.Mode.TheVariants.{Bytes, Fields}
-use Rattle.syntax.specs.declared.tree.Node.{Node}
 use Rattle.syntax.specs.Grammar.{plain, escaped, newline, Value, dot, unit, set, Tree, expression, branch, item, atom, only, or, lone, row, marked, group, simple, written_value, written_mark, written}
-use Rattle.syntax.specs.Lexer.{stands_at}
-use Rattle.syntax.specs.Parser.{Unmarked, Stops, Closes, item_at}
+use Rattle.syntax.specs.Lexer.{starts}
+use Rattle.syntax.specs.Tokens.{item_in}
+use Rattle.syntax.specs.Parser.{Unmarked, Stops, Closes}
 use Rattle.syntax.specs.Tree.{Joined, Chosen}
 use Rattle.syntax.proofs.Meant.{means_lone, means_only, means_row, means_or}
-use Rattle.syntax.proofs.Chains.{Readable, chained, chained_last, Chain}
-use Rattle.syntax.proofs.Lexes.{plain_not, head_in, head_is}
+use Rattle.syntax.proofs.Chains.{chained, chained_last, Chain}
+use Rattle.syntax.proofs.Lexes.{plain_not}
 
 -- the first byte of an item
 abbrev pub Starter : ℕ → Type 0
@@ -40,12 +40,8 @@ atom_begun Fields (simple (set n xs)) = (60, _, refl, (refl, refl))
 pub item_begun : {m : Mode} (i : Tree m item) → Begun (written i)
 item_begun {m} (marked a k) = begun_more (written a) (written_mark k) (atom_begun m a)
 
-or_true : (x : Bool) → (x || true) ≡ true
-or_true true = refl
-or_true false = refl
-
 stop_test : (b : ℕ) → (b ≡ 124) ⊎ (b ≡ 41) → (eqb b 124 || eqb b 41) ≡ true
-stop_test b = ⊎_elim (λ k. ap (λ z. z || eqb b 41) (eq-eqb b 124 k)) (λ k. ap (λ z. eqb b 124 || z) (eq-eqb b 41 k) ∙ or_true (eqb b 124))
+stop_test b = ⊎_elim (λ k. ap (λ z. z || eqb b 41) (eq-eqb b 124 k)) (λ k. ap (λ z. eqb b 124 || z) (eq-eqb b 41 k) ∙ or-true (eqb b 124))
 
 stops_unmarked : (v : List ℕ) → Stops v → Unmarked v
 stops_unmarked [] h = tt
@@ -55,23 +51,17 @@ closes_stops : (v : List ℕ) → Closes v → Stops v
 closes_stops [] h = tt
 closes_stops (b ∷ v) h = inr h
 
--- tests at a place
-module _ (w : List ℕ) (p : ℕ) where
-  pub stands_there : (b : ℕ) (v : List ℕ) → drop p w ≡ b ∷ v → stands_at b w p ≡ true
-  stands_there b v e = rw (lt-ltb p (length w) (head_in w p b v e), head_is w p b v e) (eq-eqb b b refl)
+-- tests of what stands there
+pub item_there : (u v : List ℕ) → Begun u → item_in (u ++ v) ≡ true
+item_there u v (c, t, k, (_, s)) = ap (λ z. item_in (z ++ v)) k ∙ ap not s
 
-  pub item_there : (u v : List ℕ) → Begun u → drop p w ≡ u ++ v → item_at w p ≡ true
-  item_there u v (c, t, k, (_, s)) e =
-      let f : drop p w ≡ c ∷ (t ++ v) = e ∙ ap (λ z. z ++ v) k in
-      rw (lt-ltb p (length w) (head_in w p c _ f), head_is w p c _ f) (ap not s)
+pub no_item : (v : List ℕ) → Stops v → item_in v ≡ false
+no_item [] h = refl
+no_item (b ∷ v) h = ap not (stop_test b h)
 
-  pub no_item : (v : List ℕ) → drop p w ≡ v → Stops v → item_at w p ≡ false
-  no_item [] e h = rw (le-ltb p (length w) (omega (arith, ap length e, length-drop p w)))
-  no_item (b ∷ v) e h = rw (lt-ltb p (length w) (head_in w p b v e), head_is w p b v e) (ap not (stop_test b h))
-
-  pub no_bar : (v : List ℕ) → drop p w ≡ v → Closes v → stands_at 124 w p ≡ false
-  no_bar [] e h = rw (le-ltb p (length w) (omega (arith, ap length e, length-drop p w)))
-  no_bar (b ∷ v) e h = rw (lt-ltb p (length w) (head_in w p b v e), head_is w p b v e, h)
+pub no_bar : (v : List ℕ) → Closes v → starts 124 v ≡ false
+no_bar [] h = refl
+no_bar (b ∷ v) h = rw h refl
 
 module _ {m : Mode} where
   pub unrow : (b : Tree m branch) → (i : Tree m item) × (is : List (Tree m item)) × (b ≡ chained row (lone i) is)
@@ -103,9 +93,9 @@ items m = record {
   parted = unrow;
   Ends = Stops;
   Parts = Unmarked;
-  goes_on = item_at;
+  goes_on = item_in;
   parts_end = rows_unmarked;
-  on = λ w q i v. item_there w q (written i) v (item_begun i);
+  on = λ i v. item_there (written i) v (item_begun i);
   off = no_item;
   Grown = Joined;
   means_first = λ n i. means_lone;
@@ -125,17 +115,11 @@ branches m = record {
   parted = unor;
   Ends = Closes;
   Parts = Stops;
-  goes_on = stands_at 124;
+  goes_on = starts 124;
   parts_end = ors_stops;
-  on = λ w q b v. stands_there w q 124 (written b ++ v);
+  on = λ b v. refl;
   off = no_bar;
   Grown = Chosen;
   means_first = λ n b. means_only;
   means_next = λ e x n t b. means_or;
 }
-
-abbrev pub Items : Mode → List ℕ → ℕ → ℕ → Result (Node × ℕ) Fault → Type 0
-Items m = Readable m item Unmarked
-
-abbrev pub Expressions : Mode → List ℕ → ℕ → ℕ → Result (Node × ℕ) Fault → Type 0
-Expressions m = Readable m expression Closes

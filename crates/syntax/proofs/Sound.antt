@@ -1,25 +1,26 @@
 -- What the automaton reads to the end is a written expression. Assumes nothing.
-use Rattle.std.proofs.Common.{◌≡◌, ℕ, zero, suc, Bool, true, false, cond, ◌||◌, eqb, ◌⊎◌, List, [], ◌∷◌, ◌++◌, Some, None, Option, sym, refl, ap, ◌∙◌, ⊎_elim, append_assoc, append-nil, arith}
+use Rattle.std.proofs.Common.{◌≡◌, ℕ, zero, suc, Bool, true, false, cond, ◌||◌, eqb, ◌⊎◌, List, [], ◌∷◌, ◌++◌, Some, None, Option, sym, refl, ap, ◌∙◌, ⊎_elim, append_assoc, append-nil}
 use Rattle.std.proofs.lemmas.Bool.{eqb-true, or_cases, cond_both, false≢true}
 use Rattle.syntax.specs.declared.mode.Mode.{Mode}
 use Rattle.syntax.specs.declared.mode.Mode.TheVariants.{Bytes, Fields}
 use Rattle.syntax.specs.declared.grammar.Form.{Form}
+use Rattle.syntax.specs.declared.grammar.State.{State}
 use Rattle.syntax.specs.declared.grammar.Form.TheVariants.{Need, Atom, Marked, Half, Opened, Member, MemberHalf, One, Dash, DashHalf, Two}
 use Rattle.syntax.specs.declared.grammar.Begun.{Begun}
 use Rattle.syntax.specs.declared.grammar.Begun.TheVariants.{Not, Part, Whole}
 use Rattle.syntax.specs.Grammar.{plain, escaped, newline, pair, Value, single, range, Members, last, more, dot, unit, set, once, any, some_times, perhaps, Mark, Tree, expression, branch, item, atom, only, or, lone, row, marked, group, simple, special, digit, opening, closing, caret, written_value, written_member, written_members, written_mark, written}
 use Rattle.syntax.specs.Grammar as syntax
-use Rattle.syntax.specs.Automaton.{begins, ends, State, pick, start, finish, between, further, closed, sign, outside, step, onward, run, final}
+use Rattle.syntax.specs.Automaton.{begins, ends, state, pick, start, finish, between, further, closed, sign, outside, step, onward, run, final}
 use Rattle.syntax.proofs.Complete.{Place, before, behind_atom, behind_mark}
 
 -- values from their bytes
 part_not_whole : (t : Bool) → cond t Part Not ≡ Whole → ⊥
-part_not_whole true e = let z : ◌≡◌ {A = ℕ} 0 1 = cc in omega arith
-part_not_whole false e = let z : ◌≡◌ {A = ℕ} 0 1 = cc in omega arith
+part_not_whole true e = cc
+part_not_whole false e = cc
 
 part_only : (t : Bool) → cond t Part Not ≡ Part → t ≡ true
 part_only true e = refl
-part_only false e = let z : ◌≡◌ {A = ℕ} 0 1 = cc in absurd (omega arith)
+part_only false e = absurd cc
 
 whole_value : (m : Mode) (b : ℕ) → begins m b ≡ Whole → (x : Value m) × (written_value m x ≡ b ∷ [])
 whole_value Bytes b e = go (special b) refl e
@@ -41,7 +42,7 @@ part_value Bytes a b e h = go (special a) e
 
     go : (t : Bool) → cond t (cond (eqb a 92) Part Not) Whole ≡ Part → (x : Value Bytes) × (written_value Bytes x ≡ a ∷ b ∷ [])
     go true e = second (eqb-true a 92 (part_only (eqb a 92) e))
-    go false e = let z : ◌≡◌ {A = ℕ} 0 1 = cc in absurd (omega arith)
+    go false e = absurd cc
 part_value Fields a b e h = (pair a b (part_only (digit a) e) h, refl)
 
 module _ (m : Mode) where
@@ -178,7 +179,7 @@ module _ (m : Mode) where
   -- R follows, if the state that a byte led to is followed by w
   abbrev Back : Type 0 → List ℕ → Option State → Type 0
   Back R w None = Unit {0}
-  Back R w (Some s) = Follows s.0 s.1 w → R
+  Back R w (Some s) = Follows s.form s.depth w → R
 
   back_map : {R S : Type 0} (w : List ℕ) (r : Option State) → (R → S) → Back R w r → Back S w r
   back_map w None h k = tt
@@ -188,7 +189,7 @@ module _ (m : Mode) where
     start_back : (S R : List ℕ → Type 0) (h g : Form) → ((x : Value m) (v : List ℕ) → S v → R (written_value m x ++ v)) → (Follows g d w → S w) → (Follows h d w → Halved S w) → Back (R (b ∷ w)) w (start m b h g d)
     start_back S R h g law one two = go (begins m b) refl
       where
-        go : (z : Begun) → begins m b ≡ z → Back (R (b ∷ w)) w (pick z None (Some (h, d)) (Some (g, d)))
+        go : (z : Begun) → begins m b ≡ z → Back (R (b ∷ w)) w (pick z None (Some (state h d)) (Some (state g d)))
         go Not e = tt
         go Part e = λ s. let (c, v, k, q, s) = two s in let (x, l) = part_value m b c e q in rw k (rw l at (law x v s))
         go Whole e = λ s. let (x, l) = whole_value m b e in rw l at (law x w (one s))
@@ -253,7 +254,7 @@ module _ (d b : ℕ) (w : List ℕ) where
   outside_back : (m : Mode) (f : Place) (close bar mark : Option State) → (b ≡ 41 → Closes m f close) → (b ≡ 124 → Closes m f bar) → ((k : Mark) → b ∷ [] ≡ written_mark k → Closes m f mark) → Closes m f (outside m b close bar mark d)
   outside_back Bytes f close bar mark closes bars marks = go (begins Bytes b) refl
     where
-      go : (z : Begun) → begins Bytes b ≡ z → Closes Bytes f (pick z (sign Bytes b close bar mark d) (Some (Half, d)) (Some (Atom, d)))
+      go : (z : Begun) → begins Bytes b ≡ z → Closes Bytes f (pick z (sign Bytes b close bar mark d) (Some (state Half d)) (Some (state Atom d)))
       go Not e = sign_back Bytes f close bar mark closes bars marks
       go Part e = λ (c, v, k, q, r). let (x, l) = part_value Bytes b c e q in rw k (rw l at (put_atom Bytes f (simple (unit tt x)) d v r))
       go Whole e = λ r. let (x, l) = whole_value Bytes b e in rw l at (put_atom Bytes f (simple (unit tt x)) d w r)
@@ -293,7 +294,7 @@ module _ (d b : ℕ) (w : List ℕ) where
 -- the run came to an end where an expression may end
 abbrev pub Good : Option State → Type 0
 Good None = ⊥
-Good (Some s) = final s.0 s.1 ≡ true
+Good (Some s) = final s.form s.depth ≡ true
 
 module _ (m : Mode) where
   stopped : (f : Form) (d : ℕ) → final f d ≡ true → Follows m f d []
@@ -315,7 +316,7 @@ module _ (m : Mode) where
     where
       go : (r : Option State) → ((f : Form) (d : ℕ) → Good (run m w f d) → Follows m f d w) → Back m (Follows m f d (b ∷ w)) w r → Good (onward r (run m w)) → Follows m f d (b ∷ w)
       go None ih k g = absurd g
-      go (Some s) ih k g = k (ih s.0 s.1 g)
+      go (Some s) ih k g = k (ih s.form s.depth g)
 
   pub tree_of : (w : List ℕ) → Good (run m w Need 0) → (t : Tree m expression) × (written t ≡ w)
   tree_of w g = follows w Need 0 g (at fresh)

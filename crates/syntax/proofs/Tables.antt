@@ -1,8 +1,10 @@
 -- The table of the codes that a simple atom holds. Assumes nothing.
-use Rattle.std.proofs.Common.{◌≡◌, ℕ, zero, suc, ◌+◌, ◌-◌, ◌*◌, ◌<◌, ◌≤◌, Bool, true, false, cond, not, ◌&&◌, eqb, leb, ◌≢◌, ◌↔◌, List, length, get_or, set, replicate, IfSome, Some, None, Option, sym, refl, ap, ◌∙◌, ⊎_elim, arith, length-set, get_or-set_other, get_or-set_same, below_more}
+use Rattle.std.proofs.Common.{◌≡◌, ℕ, zero, suc, ◌+◌, ◌-◌, ◌*◌, ◌<◌, ◌≤◌, Bool, true, false, cond, not, ◌&&◌, eqb, leb, ◌≢◌, ◌↔◌, ◌||◌, ◌⊎◌, inl, inr, List, length, get_or, set, replicate, IfSome, Some, None, Option, sym, refl, ap, ◌∙◌, ⊎_elim, arith, length-set, get_or-set_other, get_or-set_same, below_more}
 use lib.ListN.{length-replicate}
+use Rattle.std.specs.List.{list_any, range_with_len}
+use Rattle.std.proofs.Math.Bool.{or-true}
 use Rattle.std.proofs.lemmas.List.{get_or_past}
-use Rattle.std.proofs.lemmas.Bool.{cases_lt, cases_Bool, lt-leb, le-leb, lt-ltb, leb-true, and_parts, true≢false}
+use Rattle.std.proofs.lemmas.Bool.{cases_lt, lt-leb, le-leb, lt-ltb, leb-true, and_parts, false≢true, or_cases}
 use Rattle.std.proofs.lemmas.Bool.Decides.{Decides-below_or, nat_tests}
 use Rattle.regular.specs.Positions.{some_below}
 use Rattle.syntax.specs.declared.mode.Mode.{Mode}
@@ -11,7 +13,7 @@ use Rattle.syntax.specs.declared.lexer.Token.{Token}
 use Rattle.syntax.specs.Grammar.{Simple, dot, unit, last, more, single, range, pair, top, code, digit, held, holds, bare}
 use Rattle.syntax.specs.Grammar.{set as a_set}
 use Rattle.syntax.specs.Tree.{only, only_if}
-use Rattle.syntax.specs.Lexer.{Atomic, Table}
+use Rattle.syntax.specs.Tokens.{Atomic, Table}
 use Rattle.syntax.proofs.Options.{some_same, none_some}
 
 pub top_low : (m : Mode) → top m ≤ 255
@@ -77,29 +79,30 @@ pub single_exact : (m : Mode) (s : Simple m) (codes : List Bool) → Table m s c
 single_exact m s codes h l None e b = refl
 single_exact m s codes h l (Some c) e b = only_true c codes b l (λ k. h k ∙ bare_held m s c (sym e) b k)
 
--- no code below n is held
-abbrev pub Empty : Mode → Token → ℕ → Type 0
-Empty m t n = (s : Simple m) → Atomic m s t → (k : ℕ) → k < n → holds m s k ≡ false
-
 pub some_below_is : (f : ℕ → Bool) (n : ℕ) → some_below n f ≡ true ↔ ((k : ℕ) × (k < n) × (f k ≡ true))
 some_below_is f n = Decides-below_or f (λ k. f k ≡ true) (λ m. some_below m f) (λ k. (λ e. e, λ e. e)) refl (λ _. refl) n
 
-module _ (m : Mode) (t : Token) where
-  pub empty_none : Empty m t 0
-  empty_none s a k l = absurd (omega arith)
+-- a search of the numbers below n
+any_from : (f : ℕ → Bool) (a n : ℕ) → list_any f (range_with_len a n) ≡ true ↔ ((k : ℕ) × (a ≤ k) × (k < a + n) × (f k ≡ true))
+any_from f a zero = (λ e. absurd (false≢true e), λ (k, l, h, e). absurd (omega arith))
+any_from f a (suc n) = (
+  λ e. ⊎_elim (λ h. (a, omega arith, omega arith, h)) (λ h. let (k, l, m, i) = (any_from f (a + 1) n).0 h in (k, omega arith, omega arith, i)) (or_cases (f a) _ e),
+  λ (k, l, m, e). ⊎_elim (λ h. ap (λ t. t || list_any f (range_with_len (a + 1) n)) (ap f h ∙ e)) (λ h. ap (λ t. f a || t) ((any_from f (a + 1) n).1 (k, omega arith, omega arith, e)) ∙ or-true (f a)) (same_or_later a k l),
+)
+  where
+    same_or_later : (a k : ℕ) → a ≤ k → (a ≡ k) ⊎ (a < k)
+    same_or_later a k l = ⊎_elim inr (λ h. inl (omega arith)) (cases_lt a k)
 
-  pub empty_more : (n : ℕ) → Empty m t n → ((s : Simple m) → Atomic m s t → false ≡ holds m s n) → Empty m t (n + 1)
-  empty_more n h e s a = below_more (λ k. holds m s k ≡ false) n (h s a) (sym (e s a))
+same_test : (a b : Bool) → (a ≡ true → b ≡ true) → (b ≡ true → a ≡ true) → a ≡ b
+same_test true true f g = refl
+same_test true false f g = sym (f refl)
+same_test false true f g = g refl
+same_test false false f g = refl
 
-  pub empty_found : (n : ℕ) → ((s : Simple m) → Atomic m s t → true ≡ holds m s n) → (s : Simple m) → Atomic m s t → false ≡ not (some_below (top m + 1) (holds m s))
-  empty_found n e s a =
-      let h = sym (e s a) in
-      let l = leb-true n (top m) (and_parts (leb n (top m)) (held m s n) h).0 in
-      sym (ap not ((some_below_is (holds m s) (top m + 1)).1 (n, omega arith, h)))
-
-  pub empty_all : (n : ℕ) → Empty m t n → 256 ≤ n → (s : Simple m) → Atomic m s t → true ≡ not (some_below (top m + 1) (holds m s))
-  empty_all n h l s a =
-      ⊎_elim
-      (λ e. let (k, lt, f) = (some_below_is (holds m s) (top m + 1)).0 e in absurd (true≢false (sym f ∙ h s a k (omega (arith, top_low m)))))
-      (λ e. sym (ap not e))
-      (cases_Bool (some_below (top m + 1) (holds m s)))
+-- no code above the largest is held
+pub any_held : (m : Mode) (s : Simple m) → list_any (holds m s) (range_with_len 0 256) ≡ some_below (top m + 1) (holds m s)
+any_held m s =
+    let some = some_below_is (holds m s) (top m + 1) in
+    same_test _ _
+    (λ e. let (k, _, _, h) = (any_from (holds m s) 0 256).0 e in let l = leb-true k (top m) (and_parts (leb k (top m)) (held m s k) h).0 in some.1 (k, omega arith, h))
+    (λ e. let (k, l, h) = some.0 e in (any_from (holds m s) 0 256).1 (k, omega arith, omega (arith, top_low m), h))

@@ -3,7 +3,7 @@ use Rattle.std.proofs.Common.{◌≡◌, List, [], ◌∷◌, ◌++◌, sym, ref
 use Rattle.syntax.specs.declared.mode.Mode.{Mode}
 use Rattle.syntax.specs.Grammar.{Mark, once, any, some_times, perhaps, dot, Level, expression, branch, item, Tree, only, or, lone, row, marked, group, simple, written}
 use Rattle.syntax.specs.Grammar as grammar
-use Rattle.syntax.specs.Lexer.{Lexeme, open_group, close_group, bar, mark, atom}
+use Rattle.syntax.specs.Tokens.{Lexeme, open_group, close_group, bar, mark, atom}
 use Rattle.syntax.specs.Tree.{mark_of}
 use Rattle.syntax.proofs.Sound.{Open, fresh, barred, Front, at, in_row, whole, grown, opened}
 use Rattle.syntax.proofs.Walks.{mark_lexeme, lexemes, lexemes_spelled}

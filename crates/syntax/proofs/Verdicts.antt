@@ -11,25 +11,28 @@ use Rattle.syntax.specs.Grammar.{Tree, expression, written}
 use Rattle.syntax.specs.Refusals.{OutsideGrammar, first, too_deep, reversed, empty_set, position, spots, breach_of, breach}
 use Rattle.syntax.specs.Tree.{language, full, filled}
 use Rattle.syntax.specs.Limits.{or_ok, Checked}
-use Rattle.syntax.specs.Parser.{nesting, Means}
+use Rattle.syntax.specs.Parser.{nesting, Got}
 use Rattle.syntax.specs.Reading.{Written, Accepted, Refusal, too_long, not_in_grammar, beyond_limit, no_memory, Reads}
 use Rattle.syntax.proofs.Options.{some_same, none_some}
-use Rattle.syntax.proofs.Rows.{Expressions}
+use Rattle.syntax.proofs.Atoms.{Expressions}
+use Rattle.syntax.proofs.Chains.{before_same}
+use Rattle.syntax.specs.Lexer.{Before}
+use Rattle.syntax.specs.declared.lexer.Lexer.{Lexer}
 use Rattle.syntax.proofs.Walks.{shallow}
 use Rattle.syntax.proofs.Unique.{one_tree}
 use Rattle.syntax.proofs.Filled.{tree_filled, tree_size}
 
 first_none : (xs : List ℕ) → first xs ≡ None → xs ≡ []
 first_none [] e = refl
-first_none (x ∷ xs) e = let y : ◌≡◌ {A = ℕ} 0 1 = cc in absurd (omega arith)
+first_none (x ∷ xs) e = absurd cc
 
 -- no limit is broken just where no spot breaks one
 no_breach : (a b c d : Option ℕ) → breach_of a b c d ≡ None → (a ≡ None) × (b ≡ None) × (c ≡ None) × (d ≡ None)
 no_breach None None None None e = (refl, refl, refl, refl)
-no_breach (Some p) b c d e = let y : ◌≡◌ {A = ℕ} 0 1 = cc in absurd (omega arith)
-no_breach None (Some p) c d e = let y : ◌≡◌ {A = ℕ} 0 1 = cc in absurd (omega arith)
-no_breach None None (Some p) d e = let y : ◌≡◌ {A = ℕ} 0 1 = cc in absurd (omega arith)
-no_breach None None None (Some p) e = let y : ◌≡◌ {A = ℕ} 0 1 = cc in absurd (omega arith)
+no_breach (Some p) b c d e = absurd cc
+no_breach None (Some p) c d e = absurd cc
+no_breach None None (Some p) d e = absurd cc
+no_breach None None None (Some p) e = absurd cc
 
 pub no_spots : {m : Mode} (t : Tree m expression) → breach t ≡ None → (spots too_deep t ≡ []) × (spots reversed t ≡ []) × (spots empty_set t ≡ []) × (drop MOST_POSITIONS (spots position t) ≡ [])
 no_spots t e =
@@ -38,10 +41,10 @@ no_spots t e =
 
 ok_none : (o : Option Fault) → ◌≡◌ {A = Result (Unit {0}) Fault} (Ok tt) (or_ok o) → o ≡ None
 ok_none None e = refl
-ok_none (Some f) e = let y : ◌≡◌ {A = ℕ} 0 1 = cc in absurd (omega arith)
+ok_none (Some f) e = absurd cc
 
 err_some : (o : Option Fault) (f : Fault) → ◌≡◌ {A = Result (Unit {0}) Fault} (Err f) (or_ok o) → o ≡ Some f
-err_some None f e = let y : ◌≡◌ {A = ℕ} 0 1 = cc in absurd (omega arith)
+err_some None f e = absurd cc
 err_some (Some g) f e = ap Some (sym (inner e))
   where
     inner : ◌≡◌ {A = Result (Unit {0}) Fault} (Err f) (Err g) → f ≡ g
@@ -62,15 +65,13 @@ module _ (m : Mode) (w : List ℕ) (l : length w ≤ LONGEST) (some : (t : Tree 
     nested : nesting some.0 ≤ DEEPEST
     nested = omega (arith, shallow some.0 0 0 (omega arith) (no_spots some.0 unbroken).0)
 
-    -- what was read is the tree's
-    pub whole : (n : Node) (q : ℕ) → Expressions m w 0 DEEPEST (Ok (n, q)) → Means n some.0
-    whole n q h = (h some.0 [] (sym some.1 ∙ sym (append-nil _)) tt nested).0
-
-    pub lost : (f : Fault) → Expressions m w 0 DEEPEST (Err f) → Refusal m w f
-    lost f h = no_memory (h some.0 [] (sym some.1 ∙ sym (append-nil _)) tt nested) some.0 is_written unbroken
-
-    pub accepted : (n : Node) → Means n some.0 → Accepted m w n
-    accepted n h = record { tree = some.0; is_written = is_written; breaks_no_limit = unbroken; means_it = h.language_is; spells_it = h.spelling_is; values_are_exact = h.exact_is }
+    -- what the reading comes to
+    pub outcome : (r : Result Node Fault) (old new : Lexer) → Before m w old → Expressions m old DEEPEST r new → MatchResult r (Accepted m w) (Refusal m w)
+    outcome r old new b h = go r (h some.0 [] (before_same (sym some.1 ∙ sym (append-nil _)) b) tt nested)
+      where
+        go : (r : Result Node Fault) → Got some.0 [] r new → MatchResult r (Accepted m w) (Refusal m w)
+        go (Ok n) (means, _) = record { tree = some.0; is_written = is_written; breaks_no_limit = unbroken; means_it = means.language_is; spells_it = means.spelling_is; values_are_exact = means.exact_is }
+        go (Err f) e = no_memory e some.0 is_written unbroken
 
 -- what an accepted tree has
 module _ (m : Mode) (w : List ℕ) (n : Node) (a : Accepted m w n) where

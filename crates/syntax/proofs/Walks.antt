@@ -1,9 +1,12 @@
 -- The walk over the tokens of an expression, and what is noted on it. Assumes nothing.
-use Rattle.std.proofs.Common.{◌≡◌, ℕ, zero, suc, ◌+◌, ◌-◌, ◌<◌, ◌≤◌, Bool, true, false, cond, not, ltb, leb, List, [], ◌∷◌, ◌++◌, length, drop, Some, None, Option, sym, refl, ap, ◌∙◌, subst, append_assoc, append-nil, arith, length-append, length-drop}
+use Rattle.std.proofs.Common.{◌≡◌, ℕ, zero, suc, ◌+◌, ◌-◌, ◌≤◌, Bool, true, false, cond, not, ltb, leb, ◌==◌, List, [], ◌∷◌, ◌++◌, length, drop, None, Option, sym, refl, ap, ◌∙◌, subst, append_assoc, append-nil, arith, length-append}
 use mathlib.Core.List.{nil≢cons}
+use Rattle.std.specs.Bool.{then_some}
 use Rattle.std.specs.List.{flat_map}
-use Rattle.std.proofs.lemmas.Bool.{lt-leb, ltb-false}
-use Rattle.std.proofs.lemmas.Bool.Decides.{nat_tests}
+use Rattle.std.specs.Option.{option_or}
+use Rattle.std.proofs.Math.Dec.{leb-suc-suc}
+use Rattle.std.proofs.lemmas.Grind.{flat_map-append}
+use Rattle.std.proofs.lemmas.Bool.{lt-leb, ltb-false, eq-eqb, eqb-true, false≢true}
 use Rattle.regular.specs.Positions.{some_below}
 use Rattle.syntax.specs.declared.mode.Mode.{Mode}
 use Rattle.syntax.specs.declared.limits.TheConstants.{DEEPEST, MOST_POSITIONS}
@@ -16,16 +19,14 @@ use Rattle.syntax.specs.Grammar as grammar
 use Rattle.syntax.specs.Grammar.{once, any, some_times, perhaps, Simple, dot, unit, set, Tree, Level, expression, only, or, lone, row, marked, group, simple, top, holds, written, written_mark, Part, group_at, simple_at, parts}
 use Rattle.syntax.specs.Refusals as refusals
 use Rattle.syntax.specs.Refusals.{first, too_deep, reversed_simple, position, spots, breach_of}
-use Rattle.syntax.specs.Lexer.{Lexeme, open_group, close_group, bar, mark, atom, written_lexeme, Stands}
+use Rattle.syntax.specs.Lexer.{Before, Ahead}
+use Rattle.syntax.specs.Tokens.{Lexeme, open_group, close_group, bar, mark, atom, written_lexeme, Stands}
+use Rattle.syntax.specs.declared.lexer.Lexer.{Lexer}
 use Rattle.syntax.specs.Parser.{nesting}
-use Rattle.syntax.specs.Limits.{Noted, part_of, depth_behind, earlier_of, or_ok, verdict_of, Checked}
-use Rattle.syntax.proofs.Lexes.{lexeme_first, drop_past}
+use Rattle.syntax.specs.Limits.{Noted, part_of, depth_behind, or_ok, verdict_of, Checked}
+use Rattle.syntax.proofs.Lexes.{lexeme_head}
 
-pub joined_append : {A B : Type 0} (f : A → List B) (xs ys : List A) → flat_map f (xs ++ ys) ≡ flat_map f xs ++ flat_map f ys
-joined_append f [] ys = refl
-joined_append f (x ∷ xs) ys = ap (λ z. f x ++ z) (joined_append f xs ys) ∙ sym (append_assoc (f x) (flat_map f xs) (flat_map f ys))
-
-first_append : (xs ys : List ℕ) → first (xs ++ ys) ≡ earlier_of (first xs) (first ys)
+first_append : (xs ys : List ℕ) → first (xs ++ ys) ≡ option_or (first xs) (first ys)
 first_append [] ys = refl
 first_append (x ∷ xs) ys = refl
 
@@ -61,11 +62,11 @@ module _ {m : Mode} where
 
   pub lexemes_spelled : {l : Level} (t : Tree m l) → spelled (lexemes t) ≡ written t
   lexemes_spelled (only b) = lexemes_spelled b
-  lexemes_spelled (or t b) = joined_append (written_lexeme m) (lexemes t) (bar ∷ lexemes b) ∙ ap (λ z. z ++ (124 ∷ spelled (lexemes b))) (lexemes_spelled t) ∙ ap (λ z. written t ++ (124 ∷ z)) (lexemes_spelled b)
+  lexemes_spelled (or t b) = flat_map-append (written_lexeme m) (lexemes t) (bar ∷ lexemes b) ∙ ap (λ z. z ++ (124 ∷ spelled (lexemes b))) (lexemes_spelled t) ∙ ap (λ z. written t ++ (124 ∷ z)) (lexemes_spelled b)
   lexemes_spelled (lone i) = lexemes_spelled i
-  lexemes_spelled (row b i) = joined_append (written_lexeme m) (lexemes b) (lexemes i) ∙ ap (λ z. z ++ spelled (lexemes i)) (lexemes_spelled b) ∙ ap (λ z. written b ++ z) (lexemes_spelled i)
-  lexemes_spelled (marked a k) = joined_append (written_lexeme m) (lexemes a) (mark_lexeme k) ∙ ap (λ z. z ++ spelled (mark_lexeme k)) (lexemes_spelled a) ∙ ap (λ z. written a ++ z) (mark_spelled m k)
-  lexemes_spelled (group t) = ap (λ z. 40 ∷ z) (joined_append (written_lexeme m) (lexemes t) (close_group ∷ []) ∙ ap (λ z. z ++ (41 ∷ [])) (lexemes_spelled t))
+  lexemes_spelled (row b i) = flat_map-append (written_lexeme m) (lexemes b) (lexemes i) ∙ ap (λ z. z ++ spelled (lexemes i)) (lexemes_spelled b) ∙ ap (λ z. written b ++ z) (lexemes_spelled i)
+  lexemes_spelled (marked a k) = flat_map-append (written_lexeme m) (lexemes a) (mark_lexeme k) ∙ ap (λ z. z ++ spelled (mark_lexeme k)) (lexemes_spelled a) ∙ ap (λ z. written a ++ z) (mark_spelled m k)
+  lexemes_spelled (group t) = ap (λ z. 40 ∷ z) (flat_map-append (written_lexeme m) (lexemes t) (close_group ∷ []) ∙ ap (λ z. z ++ (41 ∷ [])) (lexemes_spelled t))
   lexemes_spelled (simple s) = append-nil _
 
   -- the parts that lexemes begin, from the depth d and the place p on
@@ -111,11 +112,11 @@ module _ {m : Mode} where
   pub shallow : {l : Level} (t : Tree m l) (d p : ℕ) → d ≤ DEEPEST → flat_map too_deep (parts t d p) ≡ [] → nesting t + d ≤ DEEPEST
   shallow (only b) d p h e = shallow b d p h e
   shallow (or t b) d p h e =
-      let (x, y) = append_none (flat_map too_deep (parts t d p)) (flat_map too_deep (parts b d (p + length (written t) + 1))) (sym (joined_append too_deep (parts t d p) _) ∙ e) in
+      let (x, y) = append_none (flat_map too_deep (parts t d p)) (flat_map too_deep (parts b d (p + length (written t) + 1))) (sym (flat_map-append too_deep (parts t d p) _) ∙ e) in
       omega (arith, shallow t d p h x, shallow b d _ h y)
   shallow (lone i) d p h e = shallow i d p h e
   shallow (row b i) d p h e =
-      let (x, y) = append_none (flat_map too_deep (parts b d p)) (flat_map too_deep (parts i d (p + length (written b)))) (sym (joined_append too_deep (parts b d p) _) ∙ e) in
+      let (x, y) = append_none (flat_map too_deep (parts b d p)) (flat_map too_deep (parts i d (p + length (written b)))) (sym (flat_map-append too_deep (parts b d p) _) ∙ e) in
       omega (arith, shallow b d p h x, shallow i d _ h y)
   shallow (marked a k) d p h e = shallow a d p h e
   shallow (group t) d p h e =
@@ -136,7 +137,7 @@ kind Bar = 2
 kind (Mark k) = 2
 kind Dot = 3
 kind (Unit c) = 3
-kind (Set n r p) = 3
+kind (Set n r) = 3
 
 module _ {m : Mode} where
   abbrev kind_of : Lexeme m → ℕ
@@ -153,7 +154,7 @@ module _ {m : Mode} where
   same_kind (mark k) p t h = ap kind h
   same_kind (atom dot) p t h = ap kind h
   same_kind (atom (unit a x)) p t h = ap kind h
-  same_kind (atom (set n xs)) p t (r, h, _) = ap kind h
+  same_kind (atom (set n xs)) p t (r, h, _, _) = ap kind h
 
 pub kind_rest : (t : Token) → (t ≡ Open → ⊥) → (t ≡ Close → ⊥) → (t ≡ Bar → ⊥) → ((k : tree.Mark) → t ≡ Mark k → ⊥) → kind t ≡ 3
 kind_rest Open a b c d = absurd (a refl)
@@ -162,45 +163,12 @@ kind_rest Bar a b c d = absurd (c refl)
 kind_rest (Mark k) a b c d = absurd (d k refl)
 kind_rest Dot a b c d = refl
 kind_rest (Unit x) a b c d = refl
-kind_rest (Set n r p) a b c d = refl
+kind_rest (Set n r) a b c d = refl
 
 module _ (m : Mode) (t : Token) (p : ℕ) (f : Findings) where
   -- what a token does to the findings
   abbrev pub Notes : Findings → Type 0
   Notes r = (k : Lexeme m) (done : List (Part m)) → Stands m k p t → Noted m f done → Noted m r (done ++ part_of k f.depth p) × (r.depth ≡ depth_behind k f.depth)
-
-  pub notes_open : (r : Findings) → t ≡ Open → ((done : List (Part m)) → Noted m f done → Noted m r (done ++ (group_at (f.depth + 1) p ∷ []))) → r.depth ≡ f.depth + 1 → Notes r
-  notes_open r is h d k done st n = go k (sym (ap kind is) ∙ same_kind k p t st)
-    where
-      go : (k : Lexeme m) → 0 ≡ kind_of k → Noted m r (done ++ part_of k f.depth p) × (r.depth ≡ depth_behind k f.depth)
-      go open_group e = (h done n, d)
-      go close_group e = absurd (omega arith)
-      go bar e = absurd (omega arith)
-      go (mark x) e = absurd (omega arith)
-      go (atom s) e = absurd (omega arith)
-
-  same_noted : (r : Findings) (done : List (Part m)) → Noted m r done → Noted m r (done ++ [])
-  same_noted r done n = subst (Noted m r) (sym (append-nil done)) n
-
-  pub notes_close : (r : Findings) → t ≡ Close → ((done : List (Part m)) → Noted m f done → Noted m r done) → r.depth ≡ f.depth - 1 → Notes r
-  notes_close r is h d k done st n = go k (sym (ap kind is) ∙ same_kind k p t st)
-    where
-      go : (k : Lexeme m) → 1 ≡ kind_of k → Noted m r (done ++ part_of k f.depth p) × (r.depth ≡ depth_behind k f.depth)
-      go open_group e = absurd (omega arith)
-      go close_group e = (same_noted r done (h done n), d)
-      go bar e = absurd (omega arith)
-      go (mark x) e = absurd (omega arith)
-      go (atom s) e = absurd (omega arith)
-
-  pub notes_other : kind t ≡ 2 → Notes f
-  notes_other is k done st n = go k (sym is ∙ same_kind k p t st)
-    where
-      go : (k : Lexeme m) → 2 ≡ kind_of k → Noted m f (done ++ part_of k f.depth p) × (f.depth ≡ depth_behind k f.depth)
-      go open_group e = absurd (omega arith)
-      go close_group e = absurd (omega arith)
-      go bar e = (same_noted f done n, refl)
-      go (mark x) e = (same_noted f done n, refl)
-      go (atom s) e = absurd (omega arith)
 
   pub notes_atom : (r : Findings) → kind t ≡ 3 → ((s : Simple m) (done : List (Part m)) → Stands m (atom s) p t → Noted m f done → Noted m r (done ++ (simple_at s p ∷ []))) → r.depth ≡ f.depth → Notes r
   notes_atom r is h d k done st n = go k (sym is ∙ same_kind k p t st) st
@@ -215,132 +183,118 @@ module _ (m : Mode) (t : Token) (p : ℕ) (f : Findings) where
 -- one part more
 module _ {m : Mode} (g : Part m → List ℕ) (done : List (Part m)) (x : Part m) where
   joined_one : flat_map g (done ++ (x ∷ [])) ≡ flat_map g done ++ g x
-  joined_one = joined_append g done (x ∷ []) ∙ ap (λ z. flat_map g done ++ z) (append-nil (g x))
+  joined_one = flat_map-append g done (x ∷ []) ∙ ap (λ z. flat_map g done ++ z) (append-nil (g x))
 
-  pub first_more : (a b : Option ℕ) → a ≡ first (flat_map g done) → b ≡ first (g x) → earlier_of a b ≡ first (flat_map g (done ++ (x ∷ [])))
-  first_more a b p q = ap (λ z. earlier_of z b) p ∙ ap (earlier_of (first (flat_map g done))) q ∙ sym (ap first joined_one ∙ first_append (flat_map g done) (g x))
+  pub first_more : (a b : Option ℕ) → a ≡ first (flat_map g done) → b ≡ first (g x) → option_or a b ≡ first (flat_map g (done ++ (x ∷ [])))
+  first_more a b p q = ap (λ z. option_or z b) p ∙ ap (option_or (first (flat_map g done))) q ∙ sym (ap first joined_one ∙ first_append (flat_map g done) (g x))
 
   pub first_same : (a : Option ℕ) → a ≡ first (flat_map g done) → g x ≡ [] → a ≡ first (flat_map g (done ++ (x ∷ [])))
   first_same a p e = p ∙ ap first (sym (append-nil _) ∙ ap (λ z. flat_map g done ++ z) (sym e) ∙ sym joined_one)
 
-leb_suc : (a b : ℕ) → leb (suc a) (suc b) ≡ leb a b
-leb_suc a b = grind (arith, nat_tests)
-
-drop_more_one : (n : ℕ) (xs : List ℕ) (x : ℕ) → first (drop n (xs ++ (x ∷ []))) ≡ earlier_of (first (drop n xs)) (cond (leb n (length xs)) (Some x) None)
+drop_more_one : (n : ℕ) (xs : List ℕ) (x : ℕ) → first (drop n (xs ++ (x ∷ []))) ≡ option_or (first (drop n xs)) (then_some (leb n (length xs)) x)
 drop_more_one zero [] x = refl
 drop_more_one zero (y ∷ xs) x = refl
-drop_more_one (suc n) [] x = none n ∙ ap (λ b. cond b (Some x) None) (sym (lt-leb (suc n) 0 (omega arith)))
+drop_more_one (suc n) [] x = none n ∙ ap (λ b. then_some b x) (sym (lt-leb (suc n) 0 (omega arith)))
   where
     none : (n : ℕ) → first (drop n []) ≡ None
     none zero = refl
     none (suc n) = refl
-drop_more_one (suc n) (y ∷ xs) x = drop_more_one n xs x ∙ ap (λ b. earlier_of (first (drop n xs)) (cond b (Some x) None)) (sym (leb_suc n (length xs)))
+drop_more_one (suc n) (y ∷ xs) x = drop_more_one n xs x ∙ ap (λ b. option_or (first (drop n xs)) (then_some b x)) (sym (leb-suc-suc n (length xs)))
 
 -- what is noted of a group, and of a simple atom
-cond_first : (b : Bool) (p : ℕ) → cond b (Some p) None ≡ first (cond b (p ∷ []) [])
-cond_first true p = refl
-cond_first false p = refl
-
-not_first : (b : Bool) (p : ℕ) → cond (not b) (Some p) None ≡ first (cond b [] (p ∷ []))
+not_first : (b : Bool) (p : ℕ) → then_some (not b) p ≡ first (cond b [] (p ∷ []))
 not_first true p = refl
 not_first false p = refl
 
 module _ {m : Mode} (f r : Findings) (done : List (Part m)) (n : Noted m f done) (p : ℕ) where
-  pub noted_group : (d : ℕ) → r.deep ≡ earlier_of f.deep (cond (ltb DEEPEST d) (Some p) None) → r.reversed ≡ f.reversed → r.empty ≡ f.empty → r.over ≡ f.over → r.positions ≡ f.positions → Noted m r (done ++ (group_at d p ∷ []))
-  noted_group d a b c e g =
-      let x = group_at d p in
-      record {
-        deep = a ∙ first_more too_deep done x _ _ n.deep (cond_first (ltb DEEPEST d) p);
-        reversed = first_same refusals.reversed done x _ (b ∙ n.reversed) refl;
-        empty = first_same refusals.empty_set done x _ (c ∙ n.empty) refl;
-        over = e ∙ n.over ∙ ap (λ z. first (drop MOST_POSITIONS z)) (sym (append-nil _) ∙ sym (joined_one position done x));
-        positions = g ∙ n.positions ∙ ap length (sym (append-nil _) ∙ sym (joined_one position done x));
-      }
-
-  pub noted_same : r.deep ≡ f.deep → r.reversed ≡ f.reversed → r.empty ≡ f.empty → r.over ≡ f.over → r.positions ≡ f.positions → Noted m r done
-  noted_same a b c e g = record { deep = a ∙ n.deep; reversed = b ∙ n.reversed; empty = c ∙ n.empty; over = e ∙ n.over; positions = g ∙ n.positions }
-
-  pub noted_simple : (s : Simple m) (x : Option ℕ) (y : Bool) → r.deep ≡ f.deep → x ≡ first (reversed_simple m s p) → y ≡ not (some_below (top m + 1) (holds m s)) → r.reversed ≡ earlier_of f.reversed x → r.empty ≡ earlier_of f.empty (cond y (Some p) None) → r.over ≡ earlier_of f.over (cond (leb MOST_POSITIONS f.positions) (Some p) None) → r.positions ≡ f.positions + 1 → Noted m r (done ++ (simple_at s p ∷ []))
+  pub noted_simple : (s : Simple m) (x : Option ℕ) (y : Bool) → r.deep ≡ f.deep → x ≡ first (reversed_simple m s p) → y ≡ not (some_below (top m + 1) (holds m s)) → r.reversed ≡ option_or f.reversed x → r.empty ≡ option_or f.empty (then_some y p) → r.over ≡ option_or f.over (then_some (leb MOST_POSITIONS f.positions) p) → r.positions ≡ f.positions + 1 → Noted m r (done ++ (simple_at s p ∷ []))
   noted_simple s x y a u v b c e g =
       let z = simple_at s p in
       let long = joined_one position done z in
       record {
         deep = first_same too_deep done z _ (a ∙ n.deep) refl;
         reversed = b ∙ first_more refusals.reversed done z _ _ n.reversed u;
-        empty = c ∙ first_more refusals.empty_set done z _ _ n.empty (ap (λ t. cond t (Some p) None) v ∙ not_first (some_below (top m + 1) (holds m s)) p);
-        over = e ∙ ap (λ t. earlier_of t (cond (leb MOST_POSITIONS f.positions) (Some p) None)) n.over ∙ ap (λ t. earlier_of (first (drop MOST_POSITIONS (flat_map position done))) (cond (leb MOST_POSITIONS t) (Some p) None)) n.positions ∙ sym (ap (λ t. first (drop MOST_POSITIONS t)) long ∙ drop_more_one MOST_POSITIONS (flat_map position done) p);
+        empty = c ∙ first_more refusals.empty_set done z _ _ n.empty (ap (λ t. then_some t p) v ∙ not_first (some_below (top m + 1) (holds m s)) p);
+        over = e ∙ ap (λ t. option_or t (then_some (leb MOST_POSITIONS f.positions) p)) n.over ∙ ap (λ t. option_or (first (drop MOST_POSITIONS (flat_map position done))) (then_some (leb MOST_POSITIONS t) p)) n.positions ∙ sym (ap (λ t. first (drop MOST_POSITIONS t)) long ∙ drop_more_one MOST_POSITIONS (flat_map position done) p);
         positions = g ∙ ap (λ t. t + 1) n.positions ∙ sym (ap length long ∙ length-append (flat_map position done) (p ∷ []));
       }
 
--- the walk: the lexemes before p are noted, and the others stand from p on
-pub record Walking (m : Mode) (w : List ℕ) (t : Tree m expression) (f : Findings) (p : ℕ) : Type 0 where
+-- the walk over w: the lexemes before the lexer are noted, and the others stand there
+pub record Walking (m : Mode) (t : Tree m expression) (f : Findings) (l : Lexer) : Type 0 where
   pub done : List (Part m)
   pub left : List (Lexeme m)
-  pub there : drop p w ≡ flat_map (written_lexeme m) left
+  pub before : Before m (flat_map (written_lexeme m) left) l
   pub noted : Noted m f done
-  pub parts_are : parts t 0 0 ≡ done ++ parts_from left f.depth p
+  pub parts_are : parts t 0 0 ≡ done ++ parts_from left f.depth l.place
 
-pub record Walk (m : Mode) (w : List ℕ) (f : Findings) (p : ℕ) : Type 0 where
-  pub within : p ≤ length w
-  pub low : f.depth ≤ p
-  pub few : f.positions ≤ p
-  pub each : (t : Tree m expression) → written t ≡ w → Walking m w t f p
+pub record Walk (start : Lexer) (f : Findings) (l : Lexer) : Type 0 where
+  pub low : f.depth ≤ l.place
+  pub few : f.positions ≤ l.place
+  pub each : (m : Mode) (t : Tree m expression) → Before m (written t) start → start.place ≡ 0 → Walking m t f l
 
-module _ (m : Mode) (w : List ℕ) where
-  pub walk_start : (f : Findings) → f ≡ record { depth = 0; positions = 0; deep = None; reversed = None; empty = None; over = None } → Walk m w f 0
-  walk_start f e =
-      let start : Findings = record { depth = 0; positions = 0; deep = None; reversed = None; empty = None; over = None } in
-      subst (λ f. Walk m w f 0) (sym e) (record {
-        within = omega arith;
-        low = omega arith;
-        few = omega arith;
-        each = λ t k. record { done = []; left = lexemes t; there = sym k ∙ sym (lexemes_spelled t); noted = record { deep = refl; reversed = refl; empty = refl; over = refl; positions = refl }; parts_are = tree_parts t };
-      })
+pub walk_start : (l : Lexer) (f : Findings) → f.depth ≡ 0 → f.positions ≡ 0 → f.deep ≡ None → f.reversed ≡ None → f.empty ≡ None → f.over ≡ None → Walk l f l
+walk_start l f a b c d e g = record {
+  low = omega arith;
+  few = omega arith;
+  each = λ m t h z. record {
+    done = [];
+    left = lexemes t;
+    before = record { mode_is = h.mode_is; rest_is = h.rest_is ∙ sym (lexemes_spelled t) };
+    noted = record { deep = c; reversed = d; empty = e; over = g; positions = b };
+    parts_are = tree_parts t ∙ rw (a, z) refl;
+  };
+}
 
-  module _ (f : Findings) (p : ℕ) (h : Walk m w f p) where
-    pub walk_stuck : p < length w → ((k : Lexeme m) (v : List ℕ) → drop p w ≡ written_lexeme m k ++ v → ⊥) → (t : Tree m expression) → written t ≡ w → ⊥
-    walk_stuck l none t e = go (h.each t e).left (h.each t e).there
+module _ (start : Lexer) (f : Findings) (l : Lexer) (h : Walk start f l) where
+  module _ (some : (length l.rest.now == 0) ≡ false) where
+    -- a lexeme is left
+    next : {m : Mode} {t : Tree m expression} (G : Type 0) (s : Walking m t f l) → ((k : Lexeme m) (ks : List (Lexeme m)) → s.left ≡ k ∷ ks → G) → G
+    next {m} G s g = go s.left refl
       where
-        go : (left : List (Lexeme m)) → drop p w ≡ flat_map (written_lexeme m) left → ⊥
-        go [] k = omega (arith, ap length k, length-drop p w)
-        go (x ∷ xs) k = none x _ k
+        go : (left : List (Lexeme m)) → s.left ≡ left → G
+        go [] e = absurd (false≢true (sym some ∙ eq-eqb (length l.rest.now) 0 (ap length (s.before.rest_is ∙ ap (flat_map (written_lexeme m)) e))))
+        go (k ∷ ks) e = g k ks e
 
-    pub walk_more : (t : Token) (q : ℕ) (r : Findings) → p < length w → p < q → q ≤ length w → ((k : Lexeme m) (v : List ℕ) → drop p w ≡ written_lexeme m k ++ v → Stands m k p t × (q ≡ p + length (written_lexeme m k))) → Notes m t p f r → (r.depth ≤ f.depth + 1) × (r.positions ≤ f.positions + 1) → Walk m w r q
-    walk_more t q r l forward inside found notes (low, few) = record {
-      within = inside;
-      low = omega (arith, h.low);
-      few = omega (arith, h.few);
-      each = λ x e. go x (h.each x e) (h.each x e).left refl;
+    pub walk_stuck : {A : Type 0} → ((m : Mode) (k : Lexeme m) (w : List ℕ) → Before m (written_lexeme m k ++ w) l → ⊥) → (m : Mode) (t : Tree m expression) → Before m (written t) start → start.place ≡ 0 → A
+    walk_stuck none m t b z =
+        let s = h.each m t b z in
+        next _ s (λ k ks e. absurd (none m k _ (record { mode_is = s.before.mode_is; rest_is = s.before.rest_is ∙ ap (flat_map (written_lexeme m)) e })))
+
+    pub walk_more : (t : Token) (new : Lexer) (mode : Mode) (p : ℕ) (r : Findings) → mode ≡ new.mode → p ≡ l.place → Ahead l new → ((m : Mode) (k : Lexeme m) (w : List ℕ) → Before m (written_lexeme m k ++ w) l → Stands m k l.place t × Before m w new) → Notes mode t p f r → (r.depth ≤ f.depth + 1) × (r.positions ≤ f.positions + 1) → Walk start r new
+    walk_more t new mode p r is at ahead found notes (low, few) = record {
+      low = omega (arith, h.low, ahead.kept.place_is, ahead.shorter);
+      few = omega (arith, h.few, ahead.kept.place_is, ahead.shorter);
+      each = λ m x b z.
+          let s = h.each m x b z in
+          next _ s (λ k ks e.
+          let here : Before m (written_lexeme m k ++ flat_map (written_lexeme m) ks) l = record { mode_is = s.before.mode_is; rest_is = s.before.rest_is ∙ ap (flat_map (written_lexeme m)) e } in
+          let (st, left) = found m k (flat_map (written_lexeme m) ks) here in
+          let (n, d) = subst (λ p. Notes m t p f r) at (subst (λ m. Notes m t p f r) (is ∙ left.mode_is) notes) k s.done st s.noted in
+          let place : new.place ≡ l.place + length (written_lexeme m k) = omega (arith, ahead.kept.place_is, ap length here.rest_is, ap length left.rest_is, length-append (written_lexeme m k) (flat_map (written_lexeme m) ks)) in
+          record {
+            done = s.done ++ part_of k f.depth l.place;
+            left = ks;
+            before = left;
+            noted = n;
+            parts_are = s.parts_are ∙ ap (λ z. s.done ++ parts_from z f.depth l.place) e ∙ sym (append_assoc s.done (part_of k f.depth l.place) _) ∙ ap (λ z. (s.done ++ part_of k f.depth l.place) ++ parts_from ks z (l.place + length (written_lexeme m k))) (sym d) ∙ ap (λ z. (s.done ++ part_of k f.depth l.place) ++ parts_from ks r.depth z) (sym place);
+          });
     }
-      where
-        go : (x : Tree m expression) (s : Walking m w x f p) (left : List (Lexeme m)) → s.left ≡ left → Walking m w x r q
-        go x s [] e = absurd (omega (arith, ap length (s.there ∙ ap (flat_map (written_lexeme m)) e), length-drop p w))
-        go x s (k ∷ ks) e =
-            let here : drop p w ≡ written_lexeme m k ++ flat_map (written_lexeme m) ks = s.there ∙ ap (flat_map (written_lexeme m)) e in
-            let (st, place) = found k _ here in
-            let (n, d) = notes k s.done st s.noted in
-            record {
-              done = s.done ++ part_of k f.depth p;
-              left = ks;
-              there = ap (λ z. drop z w) place ∙ drop_past w p (written_lexeme m k) _ here;
-              noted = n;
-              parts_are = s.parts_are ∙ ap (λ z. s.done ++ parts_from z f.depth p) e ∙ sym (append_assoc s.done (part_of k f.depth p) _) ∙ ap (λ z. (s.done ++ part_of k f.depth p) ++ parts_from ks z (p + length (written_lexeme m k))) (sym d) ∙ ap (λ z. (s.done ++ part_of k f.depth p) ++ parts_from ks r.depth z) (sym place);
-            }
 
-    all_noted : length w ≤ p → (t : Tree m expression) → written t ≡ w → Noted m f (parts t 0 0)
-    all_noted l t e = go (h.each t e) (h.each t e).left refl
-      where
-        go : (s : Walking m w t f p) (left : List (Lexeme m)) → s.left ≡ left → Noted m f (parts t 0 0)
-        go s [] k = subst (Noted m f) (sym (s.parts_are ∙ ap (λ z. s.done ++ parts_from z f.depth p) k ∙ append-nil _)) s.noted
-        go s (x ∷ xs) k =
-            let (b, u, i, _) = lexeme_first m x (flat_map (written_lexeme m) xs) in
-            absurd (omega (arith, ap length (s.there ∙ ap (flat_map (written_lexeme m)) k ∙ i), length-drop p w))
+  all_noted : (length l.rest.now == 0) ≡ true → {m : Mode} (t : Tree m expression) → Walking m t f l → Noted m f (parts t 0 0)
+  all_noted none {m} t s = go s.left refl
+    where
+      go : (left : List (Lexeme m)) → s.left ≡ left → Noted m f (parts t 0 0)
+      go [] k = subst (Noted m f) (sym (s.parts_are ∙ ap (λ z. s.done ++ parts_from z f.depth l.place) k ∙ append-nil _)) s.noted
+      go (x ∷ xs) k =
+          let (b, u, i, _) = lexeme_head m x in
+          let empty = eqb-true (length l.rest.now) 0 none in
+          absurd (omega (arith, ap length (s.before.rest_is ∙ ap (flat_map (written_lexeme m)) k ∙ ap (λ z. z ++ flat_map (written_lexeme m) xs) i)))
 
-    pub walk_end : length w ≤ p → (t : Tree m expression) → written t ≡ w → Checked t (verdict_of f)
-    walk_end l t e =
-        let n = all_noted l t e in
-        ap or_ok (
-        ap (λ x. breach_of x f.reversed f.empty f.over) n.deep
-        ∙ ap (λ x. breach_of (first (spots too_deep t)) x f.empty f.over) n.reversed
-        ∙ ap (λ x. breach_of (first (spots too_deep t)) (first (spots refusals.reversed t)) x f.over) n.empty
-        ∙ ap (λ x. breach_of (first (spots too_deep t)) (first (spots refusals.reversed t)) (first (spots refusals.empty_set t)) x) n.over)
+  pub walk_end : (length l.rest.now == 0) ≡ true → (m : Mode) (t : Tree m expression) → Before m (written t) start → start.place ≡ 0 → Checked t (verdict_of f)
+  walk_end none m t b z =
+      let n = all_noted none t (h.each m t b z) in
+      ap or_ok (
+      ap (λ x. breach_of x f.reversed f.empty f.over) n.deep
+      ∙ ap (λ x. breach_of (first (spots too_deep t)) x f.empty f.over) n.reversed
+      ∙ ap (λ x. breach_of (first (spots too_deep t)) (first (spots refusals.reversed t)) x f.over) n.empty
+      ∙ ap (λ x. breach_of (first (spots too_deep t)) (first (spots refusals.reversed t)) (first (spots refusals.empty_set t)) x) n.over)

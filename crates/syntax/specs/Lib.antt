@@ -5,5 +5,7 @@ pub mod Tree
 pub mod Reading
 pub mod Automaton
 pub mod Lexer
+pub mod Members
+pub mod Tokens
 pub mod Limits
 pub mod Parser

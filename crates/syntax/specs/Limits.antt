@@ -7,7 +7,7 @@ use Rattle.syntax.specs.declared.limits.TheConstants.{MOST_POSITIONS}
 use Rattle.syntax.specs.declared.limits.Findings.{Findings}
 use Rattle.syntax.specs.Grammar.{Part, group_at, simple_at, Tree, expression}
 use Rattle.syntax.specs.Refusals.{first, too_deep, reversed, empty_set, position, breach_of, breach}
-use Rattle.syntax.specs.Lexer.{Lexeme, open_group, close_group, bar, mark, atom}
+use Rattle.syntax.specs.Tokens.{Lexeme, open_group, close_group, bar, mark, atom}
 
 -- the findings f are those of the parts
 pub record Noted (m : Mode) (f : Findings) (parts : List (Part m)) : Type 0 where
@@ -31,10 +31,6 @@ depth_behind close_group d = d - 1
 depth_behind bar d = d
 depth_behind (mark k) d = d
 depth_behind (atom s) d = d
-
-abbrev pub earlier_of : Option ℕ → Option ℕ → Option ℕ
-earlier_of None q = q
-earlier_of (Some p) q = Some p
 
 -- the fault, if any, as a result
 abbrev pub or_ok : Option Fault → Result (Unit {0}) Fault

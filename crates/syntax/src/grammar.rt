@@ -1,7 +1,7 @@
 // Reads an expression byte by byte, and tells whether it is in the grammar.
-ghost use Rattle.std.specs.Prelude.{◌≡◌, ◌^◌, ◌<◌, ◌≤◌, length, MatchResult};
+ghost use Rattle.std.specs.Prelude.{◌≡◌, ◌+◌, ◌^◌, ◌<◌, ◌≤◌, length, IfSome, MatchResult};
 ghost use Rattle.syntax.specs.Grammar.{special, Tree, expression, written};
-ghost use Rattle.syntax.specs.Automaton.{begins, closed, ends, final, finish, further, outside, sign, start, step};
+ghost use Rattle.syntax.specs.Automaton.{bars, begins, closes, ends, final, finish, further, marks, outside, sign, start, state, step};
 ghost use Rattle.syntax.specs.Reading.{Refusal};
 
 use crate::limits::LONGEST;
@@ -35,33 +35,32 @@ pub enum Begun {
 fn is_special(b: u8) -> bool
     ensures { result ≡ special b }
 {
-    match b {
-        b'(' | b')' | b'[' | b']' | b'<' | b'>' | b'|' => true,
-        b'*' | b'+' | b'?' | b'.' | b'\\' | b'^' | b'-' => true,
-        _ => false,
-    }
+    matches!(
+        b,
+        b'(' | b')'
+            | b'['
+            | b']'
+            | b'<'
+            | b'>'
+            | b'|'
+            | b'*'
+            | b'+'
+            | b'?'
+            | b'.'
+            | b'\\'
+            | b'^'
+            | b'-'
+    )
 }
 
 fn value_begins(mode: Mode, b: u8) -> Begun
     ensures { result ≡ begins mode b }
 {
     match mode {
-        Mode::Bytes => {
-            if !is_special(b) {
-                Begun::Whole
-            } else if b == b'\\' {
-                Begun::Part
-            } else {
-                Begun::Not
-            }
-        }
-        Mode::Fields => {
-            if b >= b'0' && b <= b'9' {
-                Begun::Part
-            } else {
-                Begun::Not
-            }
-        }
+        Mode::Bytes if !is_special(b) => Begun::Whole,
+        Mode::Bytes if b == b'\\' => Begun::Part,
+        Mode::Fields if b.is_ascii_digit() => Begun::Part,
+        _ => Begun::Not,
     }
 }
 
@@ -70,148 +69,151 @@ fn value_ends(mode: Mode, b: u8) -> bool
 {
     match mode {
         Mode::Bytes => is_special(b) || b == b'n',
-        Mode::Fields => b >= b'0' && b <= b'9',
+        Mode::Fields => b.is_ascii_digit(),
     }
 }
 
-// Where a value has to begin.
-fn start(mode: Mode, b: u8, half: Form, whole: Form, depth: usize) -> Option<(Form, usize)>
-    ensures { result ≡ start mode b half whole depth }
-{
-    match value_begins(mode, b) {
-        Begun::Not => None,
-        Begun::Part => Some((half, depth)),
-        Begun::Whole => Some((whole, depth)),
-    }
-}
-
-// Behind the first byte of a value of two.
-fn finish(mode: Mode, b: u8, whole: Form, depth: usize) -> Option<(Form, usize)>
-    ensures { result ≡ finish mode b whole depth }
-{
-    if value_ends(mode, b) {
-        Some((whole, depth))
-    } else {
-        None
-    }
-}
-
-// Behind a member.
-fn further(mode: Mode, b: u8, depth: usize) -> Option<(Form, usize)>
-    ensures { result ≡ further mode b depth }
-{
-    if b == mode.closes() {
-        return Some((Form::Atom, depth));
-    }
-    match mode {
-        Mode::Bytes => start(mode, b, Form::MemberHalf, Form::One, depth),
-        Mode::Fields => if b == b',' {
-            Some((Form::Member, depth))
-        } else {
-            None
-        },
-    }
-}
-
-fn closed(depth: usize) -> Option<(Form, usize)>
-    ensures { result ≡ closed depth }
-{
-    if depth == 0 {
-        None
-    } else {
-        Some((Form::Atom, depth - 1))
-    }
-}
-
-// Outside sets, at no unit: what `)`, `|` and a mark lead to, if they may stand there, is given.
-fn sign(
-    mode: Mode,
-    b: u8,
-    close: Option<(Form, usize)>,
-    bar: Option<(Form, usize)>,
-    mark: Option<(Form, usize)>,
+// How far an expression was read: what was read last, and how many groups are open.
+#[derive(Clone, Copy, Debug, PartialEq, Eq)]
+pub struct State {
+    form: Form,
     depth: usize,
-) -> Option<(Form, usize)>
-    requires { depth < 2 ^ 32 }
-    ensures { result ≡ sign mode b close bar mark depth }
-{
-    match b {
-        b'(' => Some((Form::Need, depth + 1)),
-        b')' => close,
-        b'|' => bar,
-        b'*' | b'+' | b'?' => mark,
-        b'.' => Some((Form::Atom, depth)),
-        _ => if b == mode.opens() {
-            Some((Form::Opened, depth))
-        } else {
-            None
-        },
-    }
 }
 
-fn outside(
-    mode: Mode,
-    b: u8,
-    close: Option<(Form, usize)>,
-    bar: Option<(Form, usize)>,
-    mark: Option<(Form, usize)>,
-    depth: usize,
-) -> Option<(Form, usize)>
-    requires { depth < 2 ^ 32 }
-    ensures { result ≡ outside mode b close bar mark depth }
-{
-    match mode {
-        Mode::Bytes => match value_begins(mode, b) {
-            Begun::Not => sign(mode, b, close, bar, mark, depth),
-            Begun::Part => Some((Form::Half, depth)),
-            Begun::Whole => Some((Form::Atom, depth)),
-        },
-        Mode::Fields => sign(mode, b, close, bar, mark, depth),
+impl State {
+    // Another form, with the same groups open.
+    fn to(self, form: Form) -> State
+        ensures { result ≡ state form self.depth }
+    {
+        State { form, ..self }
     }
-}
 
-fn step(mode: Mode, form: Form, depth: usize, b: u8) -> Option<(Form, usize)>
-    requires { depth < 2 ^ 32 }
-    ensures { result ≡ step mode form depth b }
-{
-    let bar = Some((Form::Need, depth));
-    match form {
-        Form::Need => outside(mode, b, None, None, None, depth),
-        Form::Atom => {
-            let mark = Some((Form::Marked, depth));
-            outside(mode, b, closed(depth), bar, mark, depth)
+    // Where a value has to begin.
+    fn start(self, mode: Mode, b: u8, half: Form, whole: Form) -> Option<State>
+        ensures value { result ≡ start mode b half whole self.depth }
+        ensures low { IfSome result (λ s. s.depth ≤ self.depth + 1) }
+    {
+        match value_begins(mode, b) {
+            Begun::Not => None,
+            Begun::Part => Some(self.to(half)),
+            Begun::Whole => Some(self.to(whole)),
         }
-        Form::Marked => outside(mode, b, closed(depth), bar, None, depth),
-        Form::Half => finish(mode, b, Form::Atom, depth),
-        Form::Opened => {
-            if b == b'^' {
-                Some((Form::Member, depth))
-            } else {
-                start(mode, b, Form::MemberHalf, Form::One, depth)
-            }
-        }
-        Form::Member => start(mode, b, Form::MemberHalf, Form::One, depth),
-        Form::MemberHalf => finish(mode, b, Form::One, depth),
-        Form::One => {
-            if b == b'-' {
-                Some((Form::Dash, depth))
-            } else {
-                further(mode, b, depth)
-            }
-        }
-        Form::Dash => start(mode, b, Form::DashHalf, Form::Two, depth),
-        Form::DashHalf => finish(mode, b, Form::Two, depth),
-        Form::Two => further(mode, b, depth),
     }
-}
 
-fn is_final(form: Form, depth: usize) -> bool
-    ensures { result ≡ final form depth }
-{
-    match form {
-        Form::Atom => depth == 0,
-        Form::Marked => depth == 0,
-        _ => false,
+    // Behind the first byte of a value of two.
+    fn finish(self, mode: Mode, b: u8, whole: Form) -> Option<State>
+        ensures value { result ≡ finish mode b whole self.depth }
+        ensures low { IfSome result (λ s. s.depth ≤ self.depth + 1) }
+    {
+        value_ends(mode, b).then_some(self.to(whole))
+    }
+
+    // Behind a member.
+    fn further(self, mode: Mode, b: u8) -> Option<State>
+        ensures value { result ≡ further mode b self.depth }
+        ensures low { IfSome result (λ s. s.depth ≤ self.depth + 1) }
+    {
+        if b == mode.closes() {
+            return Some(self.to(Form::Atom));
+        }
+        match mode {
+            Mode::Bytes => self.start(mode, b, Form::MemberHalf, Form::One),
+            Mode::Fields => (b == b',').then_some(self.to(Form::Member)),
+        }
+    }
+
+    // Behind `)`, if it may stand here.
+    fn closed(self) -> Option<State>
+        ensures value { result ≡ closes self.form self.depth }
+        ensures low { IfSome result (λ s. s.depth ≤ self.depth + 1) }
+    {
+        match self.form {
+            Form::Atom | Form::Marked => Some(State {
+                form: Form::Atom,
+                depth: self.depth.checked_sub(1)?,
+            }),
+            _ => None,
+        }
+    }
+
+    // Behind `|`, if it may stand here.
+    fn barred(self) -> Option<State>
+        ensures value { result ≡ bars self.form self.depth }
+        ensures low { IfSome result (λ s. s.depth ≤ self.depth + 1) }
+    {
+        match self.form {
+            Form::Atom | Form::Marked => Some(self.to(Form::Need)),
+            _ => None,
+        }
+    }
+
+    // Behind a mark, if it may stand here.
+    fn marked(self) -> Option<State>
+        ensures value { result ≡ marks self.form self.depth }
+        ensures low { IfSome result (λ s. s.depth ≤ self.depth + 1) }
+    {
+        match self.form {
+            Form::Atom => Some(self.to(Form::Marked)),
+            _ => None,
+        }
+    }
+
+    // Outside sets, at no unit.
+    fn sign(self, mode: Mode, b: u8) -> Option<State>
+        requires { self.depth < 2 ^ 32 }
+        ensures value { result ≡ sign mode b (closes self.form self.depth) (bars self.form self.depth) (marks self.form self.depth) self.depth }
+        ensures low { IfSome result (λ s. s.depth ≤ self.depth + 1) }
+    {
+        match b {
+            b'(' => Some(State {
+                form: Form::Need,
+                depth: self.depth + 1,
+            }),
+            b')' => self.closed(),
+            b'|' => self.barred(),
+            b'*' | b'+' | b'?' => self.marked(),
+            b'.' => Some(self.to(Form::Atom)),
+            _ => (b == mode.opens()).then_some(self.to(Form::Opened)),
+        }
+    }
+
+    fn outside(self, mode: Mode, b: u8) -> Option<State>
+        requires { self.depth < 2 ^ 32 }
+        ensures value { result ≡ outside mode b (closes self.form self.depth) (bars self.form self.depth) (marks self.form self.depth) self.depth }
+        ensures low { IfSome result (λ s. s.depth ≤ self.depth + 1) }
+    {
+        match mode {
+            Mode::Bytes => match value_begins(mode, b) {
+                Begun::Not => self.sign(mode, b),
+                Begun::Part => Some(self.to(Form::Half)),
+                Begun::Whole => Some(self.to(Form::Atom)),
+            },
+            Mode::Fields => self.sign(mode, b),
+        }
+    }
+
+    fn step(self, mode: Mode, b: u8) -> Option<State>
+        requires { self.depth < 2 ^ 32 }
+        ensures value { result ≡ step mode self.form self.depth b }
+        ensures low { IfSome result (λ s. s.depth ≤ self.depth + 1) }
+    {
+        match self.form {
+            Form::Need | Form::Atom | Form::Marked => self.outside(mode, b),
+            Form::Half => self.finish(mode, b, Form::Atom),
+            Form::Opened if b == b'^' => Some(self.to(Form::Member)),
+            Form::Opened | Form::Member => self.start(mode, b, Form::MemberHalf, Form::One),
+            Form::MemberHalf => self.finish(mode, b, Form::One),
+            Form::One if b == b'-' => Some(self.to(Form::Dash)),
+            Form::One | Form::Two => self.further(mode, b),
+            Form::Dash => self.start(mode, b, Form::DashHalf, Form::Two),
+            Form::DashHalf => self.finish(mode, b, Form::Two),
+        }
+    }
+
+    fn is_final(self) -> bool
+        ensures { result ≡ final self.form self.depth }
+    {
+        matches!(self.form, Form::Atom | Form::Marked) && self.depth == 0
     }
 }
 
@@ -220,22 +222,19 @@ pub(crate) fn check_grammar(mode: Mode, bytes: &[u8]) -> Result<(), Fault>
     requires { length bytes.now ≤ LONGEST }
     ensures { MatchResult result (λ _. (t : Tree mode expression) × (written t ≡ bytes.now)) (λ f. Refusal mode bytes.now f) }
 {
-    let mut form = Form::Need;
-    let mut depth = 0;
-    let mut at = 0;
-    while at < bytes.len() {
-        match step(mode, form, depth, bytes[at]) {
-            Some((to, open)) => {
-                form = to;
-                depth = open;
-            }
-            None => return Err(Fault::NotInGrammar { place: at }),
-        }
-        at += 1;
+    let mut state = State {
+        form: Form::Need,
+        depth: 0,
+    };
+    for (place, &b) in bytes.iter().enumerate() {
+        let Some(next) = state.step(mode, b) else {
+            return Err(Fault::NotInGrammar { place });
+        };
+        state = next;
     }
-    if is_final(form, depth) {
+    if state.is_final() {
         Ok(())
     } else {
-        Err(Fault::NotInGrammar { place: at })
+        Err(Fault::NotInGrammar { place: bytes.len() })
     }
 }

@@ -1,14 +1,24 @@
-// Cuts an expression into tokens.
-ghost use Rattle.std.specs.Prelude.{◌≡◌, ℕ, ◌+◌, ◌^◌, ◌<◌, ◌≤◌, Bool, false, not, ◌&&◌, List, ◌++◌, length, drop, ◌==◌};
-ghost use Rattle.syntax.specs.Grammar.{Members, set, caret, closing, written_simple};
-ghost use Rattle.syntax.specs.Lexer.{Ahead, Lexed, Lexeme, atom, sign_token, stands_at, unit_at, until, pair_at, value_at, written_lexeme};
+// Reads an expression from front to back: bytes, values, marks and tokens.
+ghost use Rattle.std.specs.Prelude.{◌≡◌, ℕ, ◌+◌, ◌<◌, ◌≤◌, Bool, List, [], ◌∷◌, ◌++◌, length, take, drop, ◌==◌, not, ◌&&◌, false, IfNone, IfOk, IfSome, IsOkAnd, IsSomeAnd, MatchBool, MatchOption};
+ghost use Rattle.syntax.specs.declared.limits.TheConstants.{LONGEST};
 
 use crate::limits::LONGEST;
+use crate::members::{Member, Members};
 use crate::mode::Mode;
+use crate::signs::{mark_of, sign_of};
 use crate::tree::Mark;
 use refusal::Fault;
 
-// A token; a set borrows its members out of the expression, and has its place.
+// What is left of an expression, and the place where it stands.
+#[derive(Clone, Copy, Debug, PartialEq, Eq)]
+pub struct Lexer<'a> {
+    mode: Mode,
+    rest: &'a [u8],
+    place: usize,
+    ghost within: { place + length rest.now ≤ LONGEST },
+}
+
+// A token; a set borrows its members out of the expression, with their place.
 #[derive(Clone, Copy, Debug, PartialEq, Eq)]
 pub enum Token<'a> {
     Open,
@@ -17,58 +27,7 @@ pub enum Token<'a> {
     Mark(Mark),
     Dot,
     Unit(u8),
-    Set {
-        negated: bool,
-        members: &'a [u8],
-        place: usize,
-    },
-}
-
-// The code of the value at a place, and the place behind it.
-pub(crate) fn read_value(mode: Mode, bytes: &[u8], at: usize) -> Option<(u8, usize)>
-    requires { at < 2 ^ 32 }
-    ensures { result ≡ value_at mode bytes.now at }
-{
-    match mode {
-        Mode::Bytes => read_unit(bytes, at),
-        Mode::Fields => read_pair(bytes, at),
-    }
-}
-
-fn read_unit(bytes: &[u8], at: usize) -> Option<(u8, usize)>
-    requires { at < 2 ^ 32 }
-    ensures { result ≡ unit_at bytes.now at }
-{
-    if at >= bytes.len() {
-        return None;
-    }
-    if bytes[at] != b'\\' {
-        return Some((bytes[at], at + 1));
-    }
-    if at + 1 >= bytes.len() {
-        return None;
-    }
-    let code = if bytes[at + 1] == b'n' {
-        b'\n'
-    } else {
-        bytes[at + 1]
-    };
-    Some((code, at + 2))
-}
-
-fn read_pair(bytes: &[u8], at: usize) -> Option<(u8, usize)>
-    requires { at < 2 ^ 32 }
-    ensures { result ≡ pair_at bytes.now at }
-{
-    if at + 1 >= bytes.len() {
-        return None;
-    }
-    let (a, b) = (bytes[at], bytes[at + 1]);
-    if a >= b'0' && a <= b'9' && b >= b'0' && b <= b'9' {
-        Some((10 * (a - b'0') + (b - b'0'), at + 2))
-    } else {
-        None
-    }
+    Set { negated: bool, members: Members<'a> },
 }
 
 // Whether a byte is the one sought, and does not stand behind a `\`.
@@ -78,99 +37,240 @@ fn is_bare(escaped: bool, b: u8, sought: u8) -> bool
     !escaped && b == sought
 }
 
-// The place of the bracket that closes the set whose members begin at a place.
-fn closing_at(mode: Mode, bytes: &[u8], from: usize) -> usize
-    requires { from ≤ length bytes.now }
-    ensures value { result ≡ from + until (closing mode) false (drop from bytes.now) }
-    ensures within { result ≤ length bytes.now }
-{
-    let close = mode.closes();
-    let mut escaped = false;
-    let mut at = from;
-    while at < bytes.len() {
-        if is_bare(escaped, bytes[at], close) {
-            return at;
+impl<'a> Lexer<'a> {
+    ghost use Rattle.syntax.specs.Grammar.{caret, closing, written_members};
+    ghost use Rattle.syntax.specs.Grammar as grammar;
+    ghost use Rattle.syntax.specs.Lexer.{Before, Kept, Ahead, Left, Ate, Took, digit_of, front, pair_of, sole, starts, unit_of, until, value_of};
+    ghost use Rattle.syntax.specs.Members.{member_of};
+    ghost use Rattle.syntax.specs.Tokens.{IsSet, Lexeme, Stands, item_in, mark_of_byte, sign_token, written_lexeme};
+    ghost use Rattle.syntax.specs.declared.mode.Mode.{Mode};
+
+    pub(crate) fn new(mode: Mode, bytes: &'a [u8]) -> Lexer<'a>
+        requires { length bytes.now ≤ LONGEST }
+        ensures before { Before mode bytes.now result }
+        ensures place { result.place ≡ 0 }
+    {
+        Lexer {
+            mode,
+            rest: bytes,
+            place: 0,
         }
-        escaped = is_bare(escaped, bytes[at], b'\\');
-        at += 1;
     }
-    at
-}
 
-pub(crate) fn stands(b: u8, bytes: &[u8], at: usize) -> bool
-    ensures { result ≡ stands_at b bytes.now at }
-{
-    at < bytes.len() && bytes[at] == b
-}
+    // The next byte.
+    fn byte(&mut self) -> Option<u8>
+        ensures { MatchOption result (self.old.rest.now ≡ []) (λ b. Ate (b ∷ []) self.old self.new) }
+    {
+        let (&b, rest) = self.rest.split_first()?;
+        self.rest = rest;
+        self.place += 1;
+        Some(b)
+    }
 
-fn sign_of(b: u8) -> Option<Token<'static>>
-    ensures { result ≡ sign_token b }
-{
-    match b {
-        b'(' => Some(Token::Open),
-        b')' => Some(Token::Close),
-        b'|' => Some(Token::Bar),
-        b'*' => Some(Token::Mark(Mark::Star)),
-        b'+' => Some(Token::Mark(Mark::Plus)),
-        b'?' => Some(Token::Mark(Mark::Query)),
-        b'.' => Some(Token::Dot),
-        _ => None,
+    // Whether the next byte is this one; if so, it is read.
+    pub(crate) fn eats(&mut self, b: u8) -> bool
+        ensures value { result ≡ starts b self.old.rest.now }
+        ensures read { MatchBool result (Ate (b ∷ []) self.old self.new) (self.new ≡ self.old) }
+        ensures short { length self.new.rest.now ≤ length self.old.rest.now }
+    {
+        match self.rest.split_first() {
+            Some((&first, rest)) if first == b => {
+                self.rest = rest;
+                self.place += 1;
+                true
+            }
+            _ => false,
+        }
     }
-}
 
-// Where the members of the set at a place begin.
-pub(crate) fn members_from(at: usize, negated: bool) -> usize
-    requires { at < LONGEST }
-    ensures { result ≡ at + 1 + length (caret negated) }
-{
-    if negated { at + 2 } else { at + 1 }
-}
+    // The code of the next value.
+    fn value(&mut self) -> Option<u8>
+        ensures { Took result (value_of self.old.mode self.old.rest.now) self.old self.new }
+    {
+        match self.mode {
+            Mode::Bytes => self.unit(),
+            Mode::Fields => self.pair(),
+        }
+    }
 
-// The set at a place, and the place behind it.
-fn set_at<'a>(mode: Mode, bytes: &'a [u8], at: usize) -> Result<(Token<'a>, usize), Fault>
-    requires { (at < length bytes.now) × (length bytes.now ≤ LONGEST) }
-    ensures found { (n : Bool) (xs : Members mode) (w : List ℕ) → drop at bytes.now ≡ written_simple mode (set n xs) ++ w → Lexed mode (atom (set n xs)) at result }
-    ensures ahead { Ahead bytes.now at result }
-{
-    let negated = stands(b'^', bytes, at + 1);
-    let from = members_from(at, negated);
-    if from > bytes.len() {
-        return Err(Fault::NotInGrammar { place: at });
+    fn unit(&mut self) -> Option<u8>
+        ensures { Took result (unit_of self.old.rest.now) self.old self.new }
+    {
+        match self.byte()? {
+            b'\\' => match self.byte()? {
+                b'n' => Some(b'\n'),
+                escaped => Some(escaped),
+            },
+            plain => Some(plain),
+        }
     }
-    let to = closing_at(mode, bytes, from);
-    if to >= bytes.len() {
-        return Err(Fault::NotInGrammar { place: at });
-    }
-    let members = &bytes[from..to];
-    let set = Token::Set {
-        negated,
-        members,
-        place: at,
-    };
-    Ok((set, to + 1))
-}
 
-// The token at a place, and the place behind it.
-pub(crate) fn token_at<'a>(
-    mode: Mode,
-    bytes: &'a [u8],
-    at: usize,
-) -> Result<(Token<'a>, usize), Fault>
-    requires { length bytes.now ≤ LONGEST }
-    ensures found { (k : Lexeme mode) (w : List ℕ) → drop at bytes.now ≡ written_lexeme mode k ++ w → Lexed mode k at result }
-    ensures ahead { Ahead bytes.now at result }
-{
-    if at >= bytes.len() {
-        return Err(Fault::NotInGrammar { place: at });
+    fn pair(&mut self) -> Option<u8>
+        ensures { Took result (pair_of self.old.rest.now) self.old self.new }
+    {
+        Some(10 * self.digit()? + self.digit()?)
     }
-    if let Some(token) = sign_of(bytes[at]) {
-        return Ok((token, at + 1));
+
+    fn digit(&mut self) -> Option<u8>
+        ensures value { Took result (digit_of self.old.rest.now) self.old self.new }
+        ensures bound { IfSome result (λ d. d < 10) }
+    {
+        let b = self.byte()?;
+        if b.is_ascii_digit() {
+            Some(b - b'0')
+        } else {
+            None
+        }
     }
-    if bytes[at] == mode.opens() {
-        return set_at(mode, bytes, at);
+
+    // The next member of a set, and what stands between it and another.
+    pub(crate) fn member(&mut self) -> Option<Member>
+        ensures { Took result (member_of self.old.mode self.old.place self.old.rest.now) self.old self.new }
+    {
+        let place = self.place;
+        let first = self.value()?;
+        let last = if self.eats(b'-') {
+            self.value()?
+        } else {
+            first
+        };
+        if self.mode == Mode::Fields {
+            self.eats(b',');
+        }
+        Some(Member { first, last, place })
     }
-    match read_value(mode, bytes, at) {
-        Some((code, next)) => Ok((Token::Unit(code), next)),
-        None => Err(Fault::NotInGrammar { place: at }),
+
+    // The next mark.
+    pub(crate) fn mark(&mut self) -> Option<Mark>
+        ensures read { Took result (front mark_of_byte self.old.rest.now) self.old self.new }
+        ensures same { IfNone result (self.new ≡ self.old) }
+        ensures short { length self.new.rest.now ≤ length self.old.rest.now }
+    {
+        let &b = self.rest.first()?;
+        let mark = mark_of(b)?;
+        self.byte()?;
+        Some(mark)
+    }
+
+    // The next token, if it is no value and no set.
+    fn sign(&mut self) -> Option<Token<'static>>
+        ensures read { Took result (front sign_token self.old.rest.now) self.old self.new }
+        ensures ahead { IfSome result (λ _. Ahead self.old self.new) }
+        ensures same { IfNone result (self.new ≡ self.old) }
+    {
+        let &b = self.rest.first()?;
+        let sign = sign_of(b)?;
+        self.byte()?;
+        Some(sign)
+    }
+
+    // How many bytes stand before the bracket that closes a set.
+    fn closing(&self) -> usize
+        ensures value { result ≡ until (closing self.now.mode) false self.now.rest.now }
+        ensures within { result ≤ length self.now.rest.now }
+    {
+        let close = self.mode.closes();
+        let mut escaped = false;
+        for (n, &b) in self.rest.iter().enumerate() {
+            if is_bare(escaped, b, close) {
+                return n;
+            }
+            escaped = is_bare(escaped, b, b'\\');
+        }
+        self.rest.len()
+    }
+
+    // The next n bytes, by themselves.
+    fn split(&mut self, n: usize) -> Lexer<'a>
+        requires { n ≤ length self.old.rest.now }
+        ensures front { Before self.old.mode (take n self.old.rest.now) result }
+        ensures place { result.place ≡ self.old.place }
+        ensures back { Left (drop n self.old.rest.now) self.old self.new }
+    {
+        let (front, back) = self.rest.split_at(n);
+        let front = Lexer {
+            mode: self.mode,
+            rest: front,
+            place: self.place,
+        };
+        self.rest = back;
+        self.place += n;
+        front
+    }
+
+    // The set whose opening bracket was read.
+    fn set(&mut self) -> Option<Token<'a>>
+        ensures found { (m : Mode) (n : Bool) (xs : grammar.Members m) (w : List ℕ) → Before m (caret n ++ (written_members m xs ++ (closing m ∷ w))) self.old → IsSomeAnd result (λ t. IsSet m n xs (self.old.place + length (caret n)) t × Before m w self.new) }
+        ensures kept { Kept self.old self.new }
+        ensures short { length self.new.rest.now ≤ length self.old.rest.now }
+    {
+        let negated = self.eats(b'^');
+        let members = self.split(self.closing());
+        if self.eats(self.mode.closes()) {
+            let members = Members { lexer: members };
+            Some(Token::Set { negated, members })
+        } else {
+            None
+        }
+    }
+
+    // The next token.
+    pub(crate) fn token(&mut self) -> Result<Token<'a>, Fault>
+        ensures found { (m : Mode) (k : Lexeme m) (w : List ℕ) → Before m (written_lexeme m k ++ w) self.old → IsOkAnd result (λ t. Stands m k self.old.place t × Before m w self.new) }
+        ensures ahead { IfOk result (λ _. Ahead self.old self.new) }
+    {
+        let refused = self.refused();
+        if let Some(sign) = self.sign() {
+            return Ok(sign);
+        }
+        if self.eats(self.mode.opens()) {
+            return self.set().ok_or(refused);
+        }
+        match self.value() {
+            Some(code) => Ok(Token::Unit(code)),
+            None => Err(refused),
+        }
+    }
+
+    // The code of the value that is all that is left.
+    pub(crate) fn sole(mut self) -> Option<u8>
+        ensures { result ≡ sole (value_of self.entry.mode self.entry.rest.now) }
+    {
+        let code = self.value()?;
+        if self.rest.is_empty() {
+            Some(code)
+        } else {
+            None
+        }
+    }
+
+    // Whether an item begins here.
+    pub(crate) fn item_starts(&self) -> bool
+        ensures { result ≡ item_in self.now.rest.now }
+    {
+        !matches!(self.rest.first(), None | Some(b'|' | b')'))
+    }
+
+    pub(crate) fn is_done(&self) -> bool
+        ensures { result ≡ (length self.now.rest.now == 0) }
+    {
+        self.rest.is_empty()
+    }
+
+    pub(crate) fn mode(&self) -> Mode
+        ensures { result ≡ self.now.mode }
+    {
+        self.mode
+    }
+
+    pub(crate) fn place(&self) -> usize
+        ensures { result ≡ self.now.place }
+    {
+        self.place
+    }
+
+    // The refusal of what cannot stand here.
+    pub(crate) fn refused(&self) -> Fault {
+        Fault::NotInGrammar { place: self.place }
     }
 }

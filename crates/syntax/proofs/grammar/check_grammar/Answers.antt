@@ -4,20 +4,20 @@ use Rattle.syntax.specs.Reading.{not_in_grammar}
 use Rattle.syntax.proofs.Heads.{one_more, stuck, read_whole, read_short}
 use Rattle.syntax.proofs.grammar.check_grammar.Goals as goal
 
-pub loop-at-init : goal.loop-at-init
-loop-at-init c = record { within = omega arith; low = omega arith; so_far = refl }
+pub loop-place-init : goal.loop-place-init
+loop-place-init c = record { low = omega arith; so_far = refl }
 
 pub step-requires : goal.step-requires
-step-requires c = omega (arith, c.loop-at.invariant.low, c.loop-at.invariant.within, c.requires)
+step-requires c = omega (arith, c.loop-place.invariant.low, c.requires)
 
-pub returns-in-None : goal.returns-in-None
-returns-in-None c = not_in_grammar _ refl c.requires (stuck _ _ _ _ _ c.loop-at-test.true c.loop-at.invariant.so_far (sym c.in-None.ensures))
+pub returns-in_default : goal.returns-in_default
+returns-in_default c = not_in_grammar _ refl c.requires (stuck _ _ _ _ _ c.loop-place-test.true c.loop-place.invariant.so_far (sym c.in_default.ensures.value))
 
-pub loop-at-preserved : goal.loop-at-preserved
-loop-at-preserved c = one_more _ _ _ _ _ _ _ c.loop-at.invariant c.loop-at-test.true c.in-Some.ensures
+pub loop-place-preserved : goal.loop-place-preserved
+loop-place-preserved c = one_more _ _ _ _ _ _ _ c.loop-place.invariant c.loop-place-test.true c.in-Some.ensures.value c.in-Some.ensures.low
 
 pub returns-then-is_final : goal.returns-then-is_final
-returns-then-is_final c = read_whole _ _ _ _ _ c.loop-at.invariant c.loop-at-test.false c.if-is_final.ensures
+returns-then-is_final c = read_whole _ _ _ _ _ c.loop-place.invariant c.loop-place-test.false c.if-is_final.ensures
 
 pub returns-else-is_final : goal.returns-else-is_final
-returns-else-is_final c = not_in_grammar _ refl c.requires (read_short _ _ _ _ _ c.loop-at.invariant c.loop-at-test.false c.if-is_final.ensures)
+returns-else-is_final c = not_in_grammar _ refl c.requires (read_short _ _ _ _ _ c.loop-place.invariant c.loop-place-test.false c.if-is_final.ensures)

@@ -1,19 +1,17 @@
 -- `check_limits` meets its contract. Assumes nothing.
-use Rattle.std.proofs.Common.{sym, refl, subst}
+use Rattle.std.proofs.Common.{sym, subst}
 use Rattle.syntax.specs.Limits.{Checked}
 use Rattle.syntax.proofs.Walks.{walk_start, walk_stuck, walk_more, walk_end}
 use Rattle.syntax.proofs.limits.check_limits.Goals as goal
 
-pub loop-at-init : goal.loop-at-init
-loop-at-init c = walk_start _ _ _ refl
+pub loop-lexer-init : goal.loop-lexer-init
+loop-lexer-init c = let (a, (b, (d, (e, (f, g))))) = c.default-found.ensures in walk_start c.args.lexer c.default-found.result a b d e f g
 
 pub returns-in_err-token : goal.returns-in_err-token
-returns-in_err-token c t e = absurd (walk_stuck c.args.mode c.args.bytes.now c.loop-at.f c.loop-at.at c.loop-at.invariant c.loop-at-test.true c.in_err-token.ensures.found t e)
+returns-in_err-token c m t before place = walk_stuck c.args.lexer c.loop-lexer.found c.loop-lexer.lexer c.loop-lexer.invariant (sym c.loop-lexer-test.ensures) c.in_err-token.ensures.found m t before place
 
-pub loop-at-preserved : goal.loop-at-preserved
-loop-at-preserved c =
-    let (_, forward, inside) = c.in_ok-token.ensures.ahead in
-    walk_more c.args.mode c.args.bytes.now c.loop-at.f c.loop-at.at c.loop-at.invariant c.in_ok-token.token c.in_ok-token.next c.noted-f.result c.loop-at-test.true forward inside c.in_ok-token.ensures.found c.noted-f.ensures.notes c.noted-f.ensures.bound
+pub loop-lexer-preserved : goal.loop-lexer-preserved
+loop-lexer-preserved c = walk_more c.args.lexer c.loop-lexer.found c.loop-lexer.lexer c.loop-lexer.invariant (sym c.loop-lexer-test.ensures) c.in_ok-token.token c.token.new.self c.mode.result c.place-place.result c.with-found.result c.mode.ensures c.place-place.ensures c.in_ok-token.ensures.ahead c.in_ok-token.ensures.found c.with-found.ensures.notes c.with-found.ensures.bound
 
 pub returns : goal.returns
-returns c t e = subst (Checked t) (sym c.verdict.ensures) (walk_end c.args.mode c.args.bytes.now c.loop-at.f c.loop-at.at c.loop-at.invariant c.loop-at-test.false t e)
+returns c m t before place = subst (Checked t) (sym c.verdict.ensures) (walk_end c.args.lexer c.loop-lexer.found c.loop-lexer.lexer c.loop-lexer.invariant (sym c.loop-lexer-test.ensures) m t before place)
