@@ -1,5 +1,5 @@
 -- How the list grows, run by run and clear by clear, until it is whole. Assumes nothing.
-use Rattle.std.proofs.Common.{◌≡◌, ℕ, zero, suc, ◌+◌, ◌-◌, ◌*◌, ◌^◌, ◌<◌, ◌≤◌, Bool, true, false, cond, eqb, List, [], ◌++◌, length, take, sym, refl, ap, ◌∙◌, subst, subst₂, ⊎_elim, arith, length-take}
+use Rattle.std.proofs.Common.{◌≡◌, ℕ, zero, suc, ◌+◌, ◌-◌, ◌*◌, ◌^◌, ◌<◌, ◌≤◌, Bool, true, false, cond, eqb, List, [], ◌++◌, length, take, vec_items, sym, refl, ap, ◌∙◌, subst, subst₂, ⊎_elim, arith, length-take}
 use denote.Enum.Bare.{sameb}
 use Rattle.std.proofs.lemmas.Bool.{cond_both, cond-false, ltb-true, ltb-false, or_parts, or_cases, false≢true}
 use Rattle.refusal.specs.declared.Fault.{Fault}
@@ -14,7 +14,8 @@ use Rattle.search.specs.declared.numbers.Numbers.{Numbers}
 use Rattle.search.specs.contracts.numbers.Stop.{the_type}
 use Rattle.search.specs.declared.numbers.Stop.{Stop}
 use Rattle.search.proofs.Moving.{Kept, kept_fresh, kept_step, kept_ran, ran_from, ran_on, forward, listed_step}
-use Rattle.finder.specs.Listing.{Goes, here, on, NotListed, narrow}
+use Rattle.finder.specs.declared.Listing.{Listing}
+use Rattle.finder.specs.Listing.{Goes, here, on, TakenOver, Whole, NotListed, narrow}
 
 module _ (r : Regex) (h : List ℕ → ℕ) (t : List ℕ) where
   -- steps that the rules count are steps that lead on
@@ -140,26 +141,29 @@ module _ (r : Regex) (h : List ℕ → ℕ) (t : List ℕ) where
             ∙ ap (λ x. finished t x.next) (sym read);
       }
 
-  -- the part of the table that is filled is taken over; then the list is whole, or the table is cleared and one step made
-  module _ {k j : Numbers} {table found : List (ℕ × ℕ)} {w n : ℕ} {stop : Stop} (turn : Turned k j table found w n stop) (b : Bool) (eq : b ≡ sameb the_type stop Stop.Finished) where
-    pub all_found : {found' : List (ℕ × ℕ)} {walks reads : ℕ} → b ≡ true → found' ≡ found ++ take j.filled table → walks ≡ w + j.walks → reads ≡ n + j.reads → Exactly r t 0 (length t + 1) found' × Goes r h t 0 (length t + 1) walks reads
-    all_found is grown walked read =
+  -- a step into the cleared table is refused only for want of room
+  pub refused_step : {k j : Numbers} {table found : List (ℕ × ℕ)} {w n : ℕ} {stop : Stop} → Turned k j table found w n stop → (b : Bool) → b ≡ sameb the_type stop Stop.Finished → b ≡ false
+      → {t' : List ℕ} {l l' : Numbers} {table' : List (ℕ × ℕ)} {f : Fault} (size : ℕ) → length table ≡ size → t' ≡ t → l ≡ fresh j.next → Held r h t' l l' table table' f → NotListed r h t size f
+  refused_step {k} {j} {table} turn b eq other {t'} {l} {l'} {table'} {f} size long same cleared refused =
+      subst (λ m. NotListed r h t m f) long (refused_narrow r h t j.next (sym (eq ∙ turn.ends) ∙ other) (subst₂ (λ x y. Held r h x y l' table table' f) same cleared refused))
+
+  -- the part of the table that is filled is taken over; then the listing is whole, or the table is cleared and one step made
+  module _ {k j : Numbers} {table : List (ℕ × ℕ)} {before after : Listing} {stop : Stop} (turn : Turned k j table (vec_items before.matches) before.walks before.reads stop) (b : Bool) (eq : b ≡ sameb the_type stop Stop.Finished) (over : TakenOver j table before after) where
+    pub all_found : b ≡ true → Whole r h t after
+    all_found is =
         let done = sym (eq ∙ turn.ends) ∙ is in
-        (subst (Exactly r t 0 (length t + 1)) (sym grown) (whole_list r h t turn.going done), subst₂ (Goes r h t 0 (length t + 1)) (sym walked) (sym read) (whole_way r h t turn.going done))
+        record {
+          every = subst (Exactly r t 0 (length t + 1)) (sym over.matches) (whole_list r h t turn.going done);
+          took = subst₂ (Goes r h t 0 (length t + 1)) (sym over.walks) (sym over.reads) (whole_way r h t turn.going done);
+        }
 
-    module _ (no : b ≡ false) {t' : List ℕ} {l l' : Numbers} {table' : List (ℕ × ℕ)} (same : t' ≡ t) (cleared : l ≡ fresh j.next) where
-      pub stepped_on : {found' : List (ℕ × ℕ)} {walks reads count : ℕ} → Inhabited r → Skips r h → found' ≡ found ++ take j.filled table → walks ≡ w + j.walks → reads ≡ n + j.reads → j.walks < 2 ^ 32 → j.reads < 2 ^ 32 → Stepped r h t' l l' table table' count
-          → Going r h t l' table' found' walks reads × (k.next < l'.next) × (l'.next ≤ length t + 1)
-      stepped_on {found'} {walks} {reads} {count} i skips grown walked read few some step =
-          let by = subst₂ (λ x y. Stepped r h x y l' table table' count) same cleared step in
-          let on = forward r i h skips t j.next by.going in
-          let after = ap (λ x. x.next) by.after in (
-            subst (λ x. Going r h t l' table' x walks reads) (sym grown) (subst₂ (Going r h t l' table' (found ++ take j.filled table)) (sym walked) (sym read) (going_on r h t turn.going i skips few some by)),
-            omega (arith, turn.far, on.0, after),
-            omega (arith, on.1, after),
-          )
-
-      pub refused_step : {f : Fault} (size : ℕ) → length table ≡ size → Held r h t' l l' table table' f → NotListed r h t size f
-      refused_step {f} size long refused =
-          subst (λ m. NotListed r h t m f) long
-          (refused_narrow r h t j.next (sym (eq ∙ turn.ends) ∙ no) (subst₂ (λ x y. Held r h x y l' table table' f) same cleared refused))
+    pub stepped_on : {t' : List ℕ} {l l' : Numbers} {table' : List (ℕ × ℕ)} {count : ℕ} → Inhabited r → Skips r h → t' ≡ t → l ≡ fresh j.next → j.walks < 2 ^ 32 → j.reads < 2 ^ 32 → Stepped r h t' l l' table table' count
+        → Going r h t l' table' (vec_items after.matches) after.walks after.reads × (k.next < l'.next) × (l'.next ≤ length t + 1)
+    stepped_on {t'} {l} {l'} {table'} {count} i skips same cleared few some step =
+        let by = subst₂ (λ x y. Stepped r h x y l' table table' count) same cleared step in
+        let on = forward r i h skips t j.next by.going in
+        let next = ap (λ x. x.next) by.after in (
+          subst (λ x. Going r h t l' table' x after.walks after.reads) (sym over.matches) (subst₂ (Going r h t l' table' (vec_items before.matches ++ take j.filled table)) (sym over.walks) (sym over.reads) (going_on r h t turn.going i skips few some by)),
+          omega (arith, turn.far, on.0, next),
+          omega (arith, on.1, next),
+        )

@@ -1,11 +1,18 @@
 -- What listing a whole text gives: every match, and what finding them took. Assumes nothing.
-use Rattle.std.specs.Prelude.{ℕ, ◌+◌, ◌<◌, ◌≤◌, List, length, vec_items, Result, MatchResult}
+use Rattle.std.specs.Prelude.{◌≡◌, ℕ, ◌+◌, ◌<◌, ◌≤◌, List, ◌++◌, length, take, vec_items, Result, MatchResult}
 use Rattle.refusal.specs.declared.Fault.{Fault}
 use Rattle.refusal.specs.declared.Fault.TheVariants.{TextTooLong, NoRoom, Memory}
 use Rattle.regular.specs.Language.{Regex}
 use Rattle.regular.specs.Matches.{ending, Exactly}
 use Rattle.search.specs.Rules.{onward, reading}
+use Rattle.search.specs.declared.numbers.Numbers.{Numbers}
 use Rattle.finder.specs.declared.Listing as listings
+
+-- what stands in the filled part of a table is added to a listing, and what finding it took
+pub record TakenOver (k : Numbers) (table : List (ℕ × ℕ)) (before after : listings.Listing) : Type 0 where
+  pub matches : vec_items after.matches ≡ vec_items before.matches ++ take k.filled table
+  pub walks : after.walks ≡ before.walks + k.walks
+  pub reads : after.reads ≡ before.reads + k.reads
 
 -- over the expression, the shifts of its engine and the text's codes
 module _ (r : Regex) (shift : List ℕ → ℕ) (t : List ℕ) where

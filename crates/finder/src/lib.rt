@@ -2,14 +2,14 @@
 
 #![tactic(auto)]
 
-ghost use Rattle.std.specs.Prelude.{map, length, Some};
-ghost use Rattle.finder.specs.Listing.{Lists};
+ghost use Rattle.std.specs.Prelude.{◌+◌, ◌^◌, ◌<◌, ◌≤◌, map, length, Some, OnOk};
+ghost use Rattle.finder.specs.Listing.{Lists, TakenOver};
 ghost use Rattle.finder.specs.Messages.{listing_text};
 
 use engine::{Engine, Symbol};
 use refusal::Fault;
-use search::{Match, Search, Stop};
-use std::alloc::Global;
+use search::{Match, Numbers, Search, Stop};
+use std::alloc::{AllocError, Global};
 use std::fmt;
 
 /// Every match of a text in the table's order, and what finding them took, summed over all clears.
@@ -18,6 +18,22 @@ pub struct Listing {
     pub matches: Vec<Match>,
     pub walks: u64,
     pub reads: u64,
+}
+
+impl Listing {
+    // Adds what stands in the filled part of the table, and what finding it took.
+    fn take_over(&mut self, table: &[Match], numbers: Numbers) -> Result<(), AllocError>
+        requires filled { numbers.filled ≤ length table.now }
+        requires walks { self.old.walks + numbers.walks < 2 ^ 64 }
+        requires reads { self.old.reads + numbers.reads < 2 ^ 64 }
+        ensures { OnOk result (TakenOver numbers table.now self.old self.new) }
+    {
+        let found = &table[..numbers.filled as usize];
+        self.matches.extend_from_slice(found)?;
+        self.walks += u64::from(numbers.walks);
+        self.reads += u64::from(numbers.reads);
+        Ok(())
+    }
 }
 
 /// A line `start end` for each match, and then `matches 2 walks 7 reads 12`.
@@ -59,21 +75,16 @@ fn list_through<S: Symbol, E: Engine>(
     ensures { Lists (E.expression engine.now) (E.shift engine.now) (map S.code text.now) (length table.old) result }
 {
     let mut search = Search::open(text)?;
-    let mut matches = Vec::new(heap);
-    let mut walks = 0;
-    let mut reads = 0;
+    let mut listing = Listing {
+        matches: Vec::new(heap),
+        walks: 0,
+        reads: 0,
+    };
     loop {
         let (_, stop) = search.run(engine, table, u32::MAX);
-        let numbers = search.numbers();
-        matches.extend_from_slice(&table[..numbers.filled as usize])?;
-        walks += u64::from(numbers.walks);
-        reads += u64::from(numbers.reads);
+        listing.take_over(table, search.numbers())?;
         if stop == Stop::Finished {
-            return Ok(Listing {
-                matches,
-                walks,
-                reads,
-            });
+            return Ok(listing);
         }
         search.clear();
         // into an empty table: refused only if one place has more matches than the whole table has room

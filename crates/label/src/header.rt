@@ -1,8 +1,8 @@
 // A label's header: what its entries say, and whether they are sound.
-ghost use Rattle.std.specs.Prelude.{◌≡◌, ℕ, ◌<◌, ◌≤◌, length, drop, MatchResult, slice_index_or};
+ghost use Rattle.std.specs.Prelude.{◌≡◌, ℕ, ◌^◌, ◌<◌, ◌≤◌, length, drop, MatchResult, slice_index_or};
 ghost use Rattle.std.specs.Simd.{first_chunks};
 ghost use Rattle.label.specs.declared.Field.{Field};
-ghost use Rattle.label.specs.Labels.{entry, count, Headed, Sound};
+ghost use Rattle.label.specs.Labels.{place, entry, count, Headed, Sound};
 ghost use Rattle.label.specs.Reading.{Refused, Unsound};
 
 use crate::{EDITION, Field, HIGHEST_IDENTIFIER, MOST_ENTRIES};
@@ -17,12 +17,19 @@ pub(crate) struct Header<'a> {
     ghost listed: { entries.now ≡ first_chunks 4 (count label.now) (drop 2 label.now) },
 }
 
+// Where an entry stands; the header ends where one behind the last would stand.
+fn place(entry: usize) -> usize
+    requires { entry < 2 ^ 61 }
+    ensures { result ≡ place entry }
+{
+    2 + 4 * entry
+}
+
 impl<'a> Header<'a> {
     // The header of a label that may have no more fields than there is room.
     pub(crate) fn read(label: &'a [u8], room: usize) -> Result<Header<'a>, Fault>
         ensures { MatchResult result (λ h. (h.label.now ≡ label.now) × (count label.now ≤ room)) (Refused label.now room) }
     {
-        // a form that this project fixes (docs/DECISIONS.md)
         match label {
             [edition, count, rest @ ..] => {
                 if *edition != EDITION {
@@ -62,14 +69,14 @@ impl<'a> Header<'a> {
     pub(crate) fn check(&self) -> Result<(), Fault>
         ensures { MatchResult result (λ _. (i : ℕ) → i < count self.now.label.now → Sound self.now.label.now (entry self.now.label.now i)) (Unsound self.now.label.now) }
     {
-        let header_end = 2 + 4 * self.count();
+        let header_end = place(self.count());
         for (i, &bytes) in self.entries.iter().enumerate() {
             let field = Field::from(bytes);
             if field.identifier > HIGHEST_IDENTIFIER {
-                return Err(Fault::UnknownIdentifier { place: 2 + 4 * i });
+                return Err(Fault::UnknownIdentifier { place: place(i) });
             }
             if !field.is_within(header_end, self.label.len()) {
-                return Err(Fault::PartOutside { place: 2 + 4 * i });
+                return Err(Fault::PartOutside { place: place(i) });
             }
         }
         Ok(())
