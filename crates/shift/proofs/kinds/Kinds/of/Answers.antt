@@ -2,7 +2,7 @@ use Rattle.std.proofs.Common.{◌≡◌, not, length, vec_items, sym, ap, ◌∙
 use Rattle.regular.proofs.Sets.{length_held}
 use Rattle.distance.specs.Found.{first_alike}
 use Rattle.syntax.specs.Tree.{language}
-use Rattle.shift.proofs.Sorted.{first_by, kinds_yes, kinds_no}
+use Rattle.shift.proofs.SameKind.{first_by, kinds_yes, kinds_no}
 use Rattle.shift.proofs.kinds.Kinds.of.Goals as goal
 use Rattle.shift.proofs.kinds.Kinds.of.Goals.{Joined-not-contains, then-not-contains+in_ok-push, else-not-contains}
 
