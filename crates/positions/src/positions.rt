@@ -1,5 +1,5 @@
 // Sets of positions.
-ghost use Rattle.std.specs.Prelude.{◌≡◌, ℕ, ◌^◌, ◌<◌, ◌↔◌, IsTrue, length, bit_and, bit_or, ◌==◌};
+ghost use Rattle.std.specs.Prelude.{◌≡◌, ℕ, ◌^◌, ◌<◌, ◌≤◌, ◌↔◌, IsTrue, length, bit_and, bit_or, ◌==◌};
 ghost use Rattle.regular.specs.Sets.{as_set, bit, followed};
 ghost use Rattle.positions.specs.Greatest.{greatest_in};
 ghost use Rattle.positions.specs.Closure.{Closed};
@@ -67,7 +67,8 @@ impl Positions {
 
     /// The greatest of the numbers of the set's positions, and at least 1.
     pub fn greatest(self, numbers: &[u32]) -> u32
-        ensures { result ≡ greatest_in numbers.now self (length numbers.now) }
+        ensures value { result ≡ greatest_in numbers.now self (length numbers.now) }
+        ensures least { 1 ≤ result }
     {
         let mut best = 1;
         for p in self {

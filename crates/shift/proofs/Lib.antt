@@ -2,3 +2,4 @@ mod SameKind
 mod Longer
 mod Distances
 mod Exactly
+pub mod Greatest

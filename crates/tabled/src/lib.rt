@@ -2,7 +2,6 @@
 
 #![tactic(auto)]
 
-mod sets;
 mod steps;
 mod tabled;
 

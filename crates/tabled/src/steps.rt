@@ -1,19 +1,21 @@
-ghost use Rattle.std.specs.Prelude.{◌≡◌, length, MatchResult};
+ghost use Rattle.std.specs.Prelude.{◌≡◌, MatchResult};
+ghost use Rattle.std.specs.Coded.{le_prop};
 ghost use Rattle.refusal.specs.declared.Fault.TheVariants.{Memory};
 ghost use Rattle.regular.specs.Positions.{reached};
 ghost use Rattle.regular.specs.Sets.{as_set};
 ghost use Rattle.syntax.specs.Tree.{language};
+ghost use Rattle.syntax.proofs.Filled.{full_inhabited};
+ghost use Rattle.distance.specs.Distances.{PositionJumps};
+ghost use Rattle.distance.proofs.Safe.{jumps_safe};
+ghost use Rattle.shift.proofs.Greatest.{greatest_jump};
 ghost use Rattle.tabled.specs.Jumps.{greatest_of};
 ghost use Rattle.tabled.specs.Exact.{JumpsExactly};
-ghost use Rattle.syntax.proofs.Filled.{full_inhabited};
 ghost use Rattle.std.proofs.Math.Logic.{∥∥₁_elim};
-ghost use Rattle.distance.proofs.Safe.{jumps_safe};
-ghost use Rattle.tabled.specs.Greatest.{at_least_one, greatest_jump};
 
-use crate::sets::greatest;
 use crate::tabled::Tabled;
 use engine::Engine;
 use expression::Expression;
+use positions::Positions;
 use refusal::Fault;
 use shift::position_jumps;
 use single::SingleStep;
@@ -33,7 +35,7 @@ impl Tabled {
 
 /// The state is the set of the positions that what was read leads to, the start being 0.
 impl Engine for Tabled {
-    type State = u64;
+    type State = Positions;
 
     ghost expression = { λ e. language e.single.expression.tree };
 
@@ -46,24 +48,24 @@ impl Engine for Tabled {
     ghost skips = { λ e v tail.
         let x = e.single.expression in
         let r = language x.tree in
-        let jumps = e.jumps.items in (
-          at_least_one jumps (as_set (reached r v)) (length jumps),
-          λ u y l k w. ∥∥₁_elim e.exact (λ a. absurd a) (λ P. (jumps_safe.set r (greatest_of r jumps) (greatest_jump r x.few (full_inhabited x.tree x.full) jumps P) v tail).1 u y l k w),
+        let safe = λ (P : PositionJumps r e.jumps.items). jumps_safe.set r (greatest_of r e.jumps.items) (greatest_jump r x.few (full_inhabited x.tree x.full) e.jumps.items P) v tail in (
+          ∥∥₁_elim e.exact le_prop (λ P. (safe P).0),
+          λ u y l k w. ∥∥₁_elim e.exact (λ a. absurd a) (λ P. (safe P).1 u y l k w),
         ) };
 
-    fn start(&self) -> u64 {
+    fn start(&self) -> Positions {
         self.single.start()
     }
 
-    fn advance(&self, state: u64, code: u8) -> Option<u64> {
+    fn advance(&self, state: Positions, code: u8) -> Option<Positions> {
         self.single.advance(state, code)
     }
 
-    fn is_final(&self, state: u64) -> bool {
+    fn is_final(&self, state: Positions) -> bool {
         self.single.is_final(state)
     }
 
-    fn jump(&self, state: u64) -> u32 {
-        greatest(&self.jumps, state)
+    fn jump(&self, state: Positions) -> u32 {
+        state.greatest(&self.jumps)
     }
 }

@@ -1,15 +1,13 @@
+-- `new` meets its contract. Assumes nothing.
 use Rattle.std.proofs.Common.{◌≡◌, ℕ, List, vec_items, subst}
+use Rattle.regular.specs.Language.{Tail}
 use Rattle.syntax.specs.Tree.{language}
 use Rattle.syntax.specs.declared.tree.Node.{Node}
 use Rattle.syntax.proofs.Filled.{full_inhabited}
-use Rattle.regular.specs.Language.{Tail}
 use Rattle.distance.specs.Distances.{Jump}
+use Rattle.shift.proofs.Greatest.{greatest_jump}
 use Rattle.tabled.specs.Jumps.{greatest_of}
-use Rattle.tabled.specs.Greatest.{greatest_jump}
 use Rattle.tabled.proofs.tabled.Tabled.new.Goals as goal
-
-pub invariant_of-result : goal.invariant_of-result
-invariant_of-result c = record { exact = ∣ c.in_ok-jumps.ensures ∣₁ }
 
 pub returns : goal.returns
 returns c =
