@@ -1,10 +1,10 @@
 -- A word that agrees with its own last letters, moved on by n, is a full tail with those inside it or before it. Assumes nothing.
-use Rattle.std.proofs.Common.{◌≡◌, ℕ, zero, suc, ◌+◌, ◌-◌, ◌<◌, ◌≤◌, max, Bool, true, false, cond, ◌&&◌, eqb, leb, ◌⊎◌, ◌↔◌, List, ◌++◌, length, get_or, take, drop, Some, None, Option, unwrap_or, sym, refl, ◌∙◌, ap, ap₂, subst, append_assoc, inl, inr, ⊎_elim, arith, length-append, length-drop}
+use Rattle.std.proofs.Common.{◌≡◌, ℕ, suc, ◌+◌, ◌-◌, ◌<◌, ◌≤◌, max, Bool, true, ◌&&◌, eqb, leb, ◌⊎◌, ◌↔◌, List, ◌++◌, length, get_or, take, drop, Some, None, Option, unwrap_or, sym, refl, ◌∙◌, ap, ap₂, subst, append_assoc, inl, inr, ⊎_elim, arith, length-append, length-drop}
 use Rattle.std.specs.Option.{MatchOption}
 use Rattle.std.proofs.lemmas.List.Prefix.{front_from_reads, at_from_reads}
 use Rattle.std.proofs.lemmas.List.{length-take, take-append-drop, drop-drop, get_or_append_left, get_or-append-add, get_or-take, get_or-drop, ext_get_or}
-use Rattle.std.proofs.lemmas.Bool.{cases_lt, false≢true, leb-true, le-leb}
-use Rattle.std.proofs.lemmas.Bool.Decides.{Decides-eqb, Decides-and, Decides-like, Decides-below_and}
+use Rattle.std.proofs.lemmas.Bool.{cases_lt, leb-true, le-leb}
+use Rattle.std.proofs.lemmas.Bool.Decides.{Decides-eqb, Decides-and, Decides-at, Decides-like}
 use Rattle.std.proofs.lemmas.Slice.Eq.{slice_eq-Decides}
 use lib.Pointwise.{pointwise}
 use Rattle.regular.specs.Language.{Regex, Word}
@@ -15,28 +15,56 @@ use Rattle.distance.proofs.Safe.{length_last}
 use Rattle.plain_word.specs.Jumps.{Agrees, LeastMove}
 use Rattle.plain_word.proofs.Ends.{full_word, full_is, full_length}
 
--- if one test passes then the other
-if_then : {B X : Type 0} (b x : Bool) → (b ≡ true) ↔ B → (x ≡ true) ↔ X → (cond b x true ≡ true) ↔ (B → X)
-if_then true x g h = (λ e _. h.0 e, λ f. h.1 (f (g.0 refl)))
-if_then false x g h = (λ _ b. absurd (false≢true (g.1 b)), λ _. refl)
-
 decides_leb : (a b : ℕ) → leb a b ≡ true ↔ (a ≤ b)
 decides_leb a b = (leb-true a b, le-leb a b)
 
--- agreeing as a test
+-- the word moved on by n agrees with its last j letters just if two slices of it are equal
 module _ (w : List ℕ) (j n : ℕ) where
-  abbrev same_at : ℕ → Bool
-  same_at p = cond (leb (length w - j) p) (cond (leb n p) (eqb (get_or w (p - n) 0) (get_or w p 0)) true) true
+  abbrev over : ℕ
+  over = max (length w - j) n
 
-  abbrev agree_below : ℕ → Bool
-  agree_below zero = true
-  agree_below (suc p) = same_at p && agree_below p
+  abbrev above : List ℕ
+  above = take (length w - n - (over - n)) (drop (over - n) w)
 
-  agree_is : agree_below (length w) ≡ true ↔ Agrees w j n
+  abbrev below : List ℕ
+  below = take (length w - over) (drop over w)
+
+  read_above : (i : ℕ) → i < length w - over → get_or above i 0 ≡ get_or w (over - n + i) 0
+  read_above i l = get_or-take (length w - n - (over - n)) (drop (over - n) w) i 0 (omega arith) ∙ get_or-drop (over - n) w i 0
+
+  read_below : (i : ℕ) → i < length w - over → get_or below i 0 ≡ get_or w (over + i) 0
+  read_below i l = get_or-take (length w - over) (drop over w) i 0 l ∙ get_or-drop over w i 0
+
+  length_above : length above ≡ length w - over
+  length_above = omega (arith, length-take (length w - n - (over - n)) (drop (over - n) w), length-drop (over - n) w)
+
+  length_below : length below ≡ length w - over
+  length_below = omega (arith, length-take (length w - over) (drop over w), length-drop over w)
+
+  abbrev agree : Bool
+  agree = pointwise eqb above below
+
+  agree_is : agree ≡ true ↔ Agrees w j n
   agree_is =
-      let below = Decides-below_and same_at (λ p. length w - j ≤ p → n ≤ p → get_or w (p - n) 0 ≡ get_or w p 0) agree_below
-      (λ p. if_then (leb (length w - j) p) _ (decides_leb (length w - j) p) (if_then (leb n p) _ (decides_leb n p) (Decides-eqb (get_or w (p - n) 0) (get_or w p 0)))) refl (λ _. refl) (length w) in
-      (λ e p a b l. below.0 e p l a b, λ f. below.1 (λ p l a b. f p a b l))
+      Decides-like agree
+      (λ e p a b l.
+      let there : over - n + (p - over) ≡ p - n = omega arith in
+      let here : over + (p - over) ≡ p = omega arith in
+      ap (λ k. get_or w k 0) (sym there) ∙ sym (read_above (p - over) (omega arith)) ∙ ap (λ t. get_or t (p - over) 0) e ∙ read_below (p - over) (omega arith) ∙ ap (λ k. get_or w k 0) here)
+      (λ A. ext_get_or 0 above below (length_above ∙ sym length_below) (λ i l.
+      let there : over - n + i ≡ over + i - n = omega arith in
+      read_above i (omega (arith, length_above)) ∙ ap (λ k. get_or w k 0) there ∙ A (over + i) (omega arith) (omega arith) (omega (arith, length_above)) ∙ sym (read_below i (omega (arith, length_above)))))
+      (slice_eq-Decides Decides-eqb above below agree refl)
+
+-- .. with the word as it is read
+pub agrees_by : (w s t : List ℕ) (m j n o : ℕ) (r : Bool) → m ≡ length w → s ≡ w → t ≡ w → o ≡ max (m - j) n
+    → r ≡ pointwise eqb (take (m - n - (o - n)) (drop (o - n) s)) (take (length t - o) (drop o t)) → (r ≡ true) ↔ Agrees w j n
+agrees_by w s t m j n o r long is same from test =
+    let at : o ≡ over w j n = omega arith in
+    Decides-at r (agree w j n)
+    (test ∙ ap₂ (λ x y. pointwise eqb (take (m - n - (o - n)) (drop (o - n) x)) (take (length y - o) (drop o y))) is same
+    ∙ ap₂ (λ k p. pointwise eqb (take (k - n - (p - n)) (drop (p - n) w)) (take (length w - p) (drop p w))) long at)
+    (agree_is w j n)
 
 module _ (r : Regex) (w : List ℕ) (alone : (v : List ℕ) → Word r v ↔ (v ≡ w)) (j : ℕ) (le : j ≤ length w) where
   abbrev m : ℕ
@@ -126,11 +154,8 @@ module _ (r : Regex) (w : List ℕ) (alone : (v : List ℕ) → Word r v ↔ (v 
       whole = ap (λ t. t ++ x) (sym (take-append-drop (j + n - m) v) ∙ ap (λ t. y ++ t) rest) ∙ append_assoc y (drop n w) x ∙ ap (λ t. y ++ t) (sym again)
 
   module _ (some : 1 ≤ m) where
-    abbrev agree : ℕ → Bool
-    agree n = agree_below w j n m
-
     abbrev is_inside : ℕ → Bool
-    is_inside n = leb 1 n && (leb (j + n) m && agree n)
+    is_inside n = leb 1 n && (leb (j + n) m && agree w j n)
 
     inside_is : (n : ℕ) → is_inside n ≡ true ↔ ((1 ≤ n) × ((j + n ≤ m) × Agrees w j n))
     inside_is n = Decides-and _ _ (decides_leb 1 n) (Decides-and _ _ (decides_leb (j + n) m) (agree_is w j n))
@@ -143,7 +168,7 @@ module _ (r : Regex) (w : List ℕ) (alone : (v : List ℕ) → Word r v ↔ (v 
         (least_below is_inside (suc m))
 
     abbrev is_past : ℕ → Bool
-    is_past n = leb 1 n && (leb n m && (leb m (j + n) && agree n))
+    is_past n = leb 1 n && (leb n m && (leb m (j + n) && agree w j n))
 
     past_is : (n : ℕ) → is_past n ≡ true ↔ ((1 ≤ n) × ((n ≤ m) × ((m ≤ j + n) × Agrees w j n)))
     past_is n = Decides-and _ _ (decides_leb 1 n) (Decides-and _ _ (decides_leb n m) (Decides-and _ _ (decides_leb m (j + n)) (agree_is w j n)))
@@ -177,47 +202,6 @@ module _ (r : Regex) (w : List ℕ) (alone : (v : List ℕ) → Word r v ↔ (v 
         let both = lesser_both (Inside r m v) (Past r m v) d (finite e) D E in
         let found : LeastIfAny either_way (finite h) = (here, λ i. ⊎_elim (λ I. let (x, (_, B)) = inside_agrees i I in L.least i x B) (λ P. let (x, (_, B)) = past_agrees i P in L.least i x B)) in
         (m, full_length r w alone few, (d, finite e, D, E, least_if_one either_way (lesser d (finite e)) (finite h) both found))
-
--- agreeing is that two slices of the word are equal
-module _ (w : List ℕ) (j n over : ℕ) (from : over ≡ max (length w - j) n) (le : n ≤ length w) where
-  abbrev above : List ℕ
-  above = take (length w - n - (over - n)) (drop (over - n) w)
-
-  abbrev below : List ℕ
-  below = take (length w - over) (drop over w)
-
-  read_above : (i : ℕ) → i < length w - over → get_or above i 0 ≡ get_or w (over - n + i) 0
-  read_above i l = get_or-take (length w - n - (over - n)) (drop (over - n) w) i 0 (omega arith) ∙ get_or-drop (over - n) w i 0
-
-  read_below : (i : ℕ) → i < length w - over → get_or below i 0 ≡ get_or w (over + i) 0
-  read_below i l = get_or-take (length w - over) (drop over w) i 0 l ∙ get_or-drop over w i 0
-
-  length_above : length above ≡ length w - over
-  length_above = omega (arith, length-take (length w - n - (over - n)) (drop (over - n) w), length-drop (over - n) w)
-
-  length_below : length below ≡ length w - over
-  length_below = omega (arith, length-take (length w - over) (drop over w), length-drop over w)
-
-  slices_agree : (above ≡ below) ↔ Agrees w j n
-  slices_agree = (
-    λ e p a b l.
-        let there : over - n + (p - over) ≡ p - n = omega arith in
-        let here : over + (p - over) ≡ p = omega arith in
-        ap (λ k. get_or w k 0) (sym there) ∙ sym (read_above (p - over) (omega arith)) ∙ ap (λ t. get_or t (p - over) 0) e ∙ read_below (p - over) (omega arith) ∙ ap (λ k. get_or w k 0) here,
-    λ A. ext_get_or 0 above below (length_above ∙ sym length_below) (λ i l.
-        let there : over - n + i ≡ over + i - n = omega arith in
-        read_above i (omega (arith, length_above)) ∙ ap (λ k. get_or w k 0) there ∙ A (over + i) (omega arith) (omega arith) (omega (arith, length_above)) ∙ sym (read_below i (omega (arith, length_above)))),
-  )
-
--- .. with the word as it is read
-pub agrees_by : (w s t : List ℕ) (m j n over : ℕ) (r : Bool) → m ≡ length w → s ≡ w → t ≡ w → over ≡ max (m - j) n → n ≤ m
-    → r ≡ pointwise eqb (take (m - n - (over - n)) (drop (over - n) s)) (take (length t - over) (drop over t)) → (r ≡ true) ↔ Agrees w j n
-agrees_by w s t m j n over r long is same from le test =
-    let f : over ≡ max (length w - j) n = omega arith in
-    let l : n ≤ length w = omega arith in
-    Decides-like r (slices_agree w j n over f l).0 (slices_agree w j n over f l).1
-    (slice_eq-Decides Decides-eqb (above w j n over f l) (below w j n over f l) r
-    (test ∙ ap₂ (pointwise eqb) (ap₂ (λ k x. take (k - n - (over - n)) (drop (over - n) x)) long is) (ap (λ x. take (length x - over) (drop over x)) same)))
 
 -- the first n below the length that agrees, and the length where none does, is the least move
 pub first_agrees : (w : List ℕ) (j m : ℕ) (o : Option ℕ) → m ≡ length w → 1 ≤ m

@@ -8,8 +8,9 @@ use Rattle.std.proofs.lemmas.Bool.Decides.{nat_tests}
 use Rattle.distance.specs.Extremes.{Distance, infinite, finite, lesser}
 use Rattle.distance.proofs.Alike.{same_tests}
 use Rattle.distance.specs.Found.{head_of, beyond, first_of, opens}
-use Rattle.shift.specs.Led.{Led, words, excess_of}
-use Rattle.shift.specs.Listed.{distance}
+use Rattle.shift.specs.Led.{Led, words}
+use Rattle.shift.specs.Excess.{excess_of}
+use Rattle.shift.specs.Excess.{distance}
 
 -- a head stands where the first symbols are equal to it
 head_pointwise : (v w : List ℕ) → pointwise eqb (take (length v) w) v ≡ head_of v w

@@ -1,4 +1,4 @@
-mod Sorted
+mod SameKind
 mod Longer
 mod Distances
 mod Exactly

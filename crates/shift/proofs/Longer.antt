@@ -1,16 +1,15 @@
 -- The tails that are one code longer. Assumes nothing.
-use Rattle.std.proofs.Common.{◌≡◌, ℕ, ◌+◌, ◌-◌, ◌<◌, ◌≤◌, true, false, cond, List, [], ◌∷◌, ◌++◌, map, length, get_or, take, drop, sym, refl, ap, ◌∙◌, ap₂, append_assoc, append-nil, add-one, arith, length-append, length-drop}
+use Rattle.std.proofs.Common.{◌≡◌, ℕ, ◌+◌, ◌-◌, ◌<◌, ◌≤◌, true, false, cond, List, [], ◌∷◌, ◌++◌, map, length, get_or, take, drop, sym, refl, ap, ◌∙◌, append_assoc, append-nil, add-one, arith, length-append, length-drop}
 use Rattle.std.specs.List.{flat_map}
 use Rattle.std.proofs.lemmas.List.{take_all, take_more, map-append, get_or-map, take-append-drop, length-map, flat_map_more}
 use Rattle.std.proofs.lemmas.Grind.{flat_map-append}
 use Rattle.regular.specs.Language.{Regex}
 use Rattle.regular.specs.Positions.{size, reached, tailed}
-use Rattle.regular.specs.Sets.{as_set, held_of}
+use Rattle.regular.specs.Sets.{as_set}
 use Rattle.regular.proofs.Reading.{reached_in}
 use Rattle.regular.proofs.Sets.{empty_set, some_set}
-use Rattle.distance.specs.Found.{longer, tails}
-use Rattle.shift.specs.Led.{Led, led, words, AllLed, all_kinds, listed}
-use Rattle.shift.specs.Listed.{longer_words}
+use Rattle.distance.specs.Found.{longer, fronted, tails}
+use Rattle.shift.specs.Led.{Led, led, words, AllLed, all_codes, listed, longer_by_one}
 
 -- words that are led are theirs again
 pub words_led : (r : Regex) (ws : List (List ℕ)) → words (map (led r) ws) ≡ ws
@@ -50,35 +49,35 @@ module _ (r : Regex) (few : size r ≤ 63) (v ks : List ℕ) (i : ℕ) (l : i < 
       sym (append-nil xs) ∙ ap (λ b. xs ++ map (led r) (cond b ((c ∷ v) ∷ []) [])) (sym t) ∙ step
 
 -- one more word
-module _ (r : Regex) (ks : List ℕ) (ts : List Led) (i : ℕ) (x : Led) (at : x ≡ get_or ts i x) (l : i < length ts) where
+module _ (r : Regex) (ts : List Led) (i : ℕ) (x : Led) (at : x ≡ get_or ts i x) (l : i < length ts) where
   more : take (i + 1) ts ≡ take i ts ++ x ∷ []
   more = take_more ts i x l ∙ ap (λ t. take i ts ++ t ∷ []) (sym at)
 
-  pub word_more : (xs ys : List Led) → xs ≡ map (led r) (longer_words r ks (words (take i ts))) → ys ≡ xs ++ map (led r) (flat_map (longer r x.codes) ks)
-      → ys ≡ map (led r) (longer_words r ks (words (take (i + 1) ts)))
+  pub word_more : (xs ys : List Led) → xs ≡ map (led r) (longer_by_one r (words (take i ts))) → ys ≡ xs ++ map (led r) (fronted r (all_codes r) x.codes)
+      → ys ≡ map (led r) (longer_by_one r (words (take (i + 1) ts)))
   word_more xs ys e f =
-      f ∙ ap (λ z. z ++ map (led r) (flat_map (longer r x.codes) ks)) e
-      ∙ sym (map-append (led r) (longer_words r ks (words (take i ts))) (flat_map (longer r x.codes) ks))
-      ∙ ap (map (led r)) (flat_map_more (λ w. flat_map (longer r w) ks) [] (words (take i ts)) x.codes
-      ∙ ap (longer_words r ks) (sym (map-append (λ (t : Led). t.codes) (take i ts) (x ∷ [])) ∙ ap words (sym more)))
+      f ∙ ap (λ z. z ++ map (led r) (fronted r (all_codes r) x.codes)) e
+      ∙ sym (map-append (led r) (longer_by_one r (words (take i ts))) (fronted r (all_codes r) x.codes))
+      ∙ ap (map (led r)) (flat_map_more (fronted r (all_codes r)) [] (words (take i ts)) x.codes
+      ∙ ap (longer_by_one r) (sym (map-append (λ (t : Led). t.codes) (take i ts) (x ∷ [])) ∙ ap words (sym more)))
 
-  pub word_most : length (longer_words r ks (words (take (i + 1) ts))) ≤ length (longer_words r ks (words ts))
+  pub word_most : length (longer_by_one r (words (take (i + 1) ts))) ≤ length (longer_by_one r (words ts))
   word_most =
-      let split = ap (λ z. longer_words r ks (words z)) (sym (take-append-drop (i + 1) ts)) ∙ ap (longer_words r ks) (map-append (λ (t : Led). t.codes) (take (i + 1) ts) (drop (i + 1) ts))
-      ∙ flat_map-append (λ w. flat_map (longer r w) ks) (words (take (i + 1) ts)) (words (drop (i + 1) ts)) in
-      omega (arith, ap length split, length-append (longer_words r ks (words (take (i + 1) ts))) (longer_words r ks (words (drop (i + 1) ts))))
+      let split = ap (λ z. longer_by_one r (words z)) (sym (take-append-drop (i + 1) ts)) ∙ ap (longer_by_one r) (map-append (λ (t : Led). t.codes) (take (i + 1) ts) (drop (i + 1) ts))
+      ∙ flat_map-append (fronted r (all_codes r)) (words (take (i + 1) ts)) (words (drop (i + 1) ts)) in
+      omega (arith, ap length split, length-append (longer_by_one r (words (take (i + 1) ts))) (longer_by_one r (words (drop (i + 1) ts))))
 
 -- the tails of the next length
-module _ (r : Regex) (n start : ℕ) (ks : List ℕ) (list read level : List Led) (kinds_are : ks ≡ all_kinds r) (is : read ≡ list)
-    (at : level ≡ take (length read - start) (drop start read)) (here : drop start list ≡ map (led r) (tails r (length (held_of r)) n)) where
-  level_is : level ≡ map (led r) (tails r (length (held_of r)) n)
+module _ (r : Regex) (n start : ℕ) (list read level : List Led) (is : read ≡ list)
+    (at : level ≡ take (length read - start) (drop start read)) (here : drop start list ≡ map (led r) (tails r (all_codes r) n)) where
+  level_is : level ≡ map (led r) (tails r (all_codes r) n)
   level_is = at ∙ take_all (length read - start) (drop start read) (omega (arith, length-drop start read)) ∙ ap (drop start) is ∙ here
 
   pub level_led : AllLed r level
-  level_led = all_led r level (tails r (length (held_of r)) n) level_is
+  level_led = all_led r level (tails r (all_codes r) n) level_is
 
-  pub next_words : longer_words r ks (words level) ≡ tails r (length (held_of r)) (n + 1)
-  next_words = rw add-one (ap₂ (longer_words r) kinds_are (ap words level_is ∙ words_led r (tails r (length (held_of r)) n)))
+  pub next_words : longer_by_one r (words level) ≡ tails r (all_codes r) (n + 1)
+  next_words = rw add-one (ap (longer_by_one r) (ap words level_is ∙ words_led r (tails r (all_codes r) n)))
 
-pub listed_more : (r : Regex) (n : ℕ) → listed r (n + 1) ≡ listed r n ++ tails r (length (held_of r)) (n + 1)
+pub listed_more : (r : Regex) (n : ℕ) → listed r (n + 1) ≡ listed r n ++ tails r (all_codes r) (n + 1)
 listed_more r n = rw add-one refl

@@ -1,3 +1,4 @@
 pub mod Led
+pub mod Excess
 pub mod Listed
 pub mod Weighed

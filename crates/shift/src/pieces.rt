@@ -12,10 +12,10 @@ use std::alloc::{AllocError, Global};
 /// and the lesser of its two distances.
 #[derive(Drop)]
 pub struct Piece {
-    pub span: usize,
-    pub positions: Positions,
-    pub onward: Positions,
-    pub nearest: usize,
+    span: usize,
+    positions: Positions,
+    onward: Positions,
+    nearest: usize,
 }
 
 impl Piece {
@@ -30,8 +30,8 @@ impl Piece {
 /// The pieces of every tail up to a length, the depth.
 #[derive(Drop)]
 pub struct Pieces {
-    pub(crate) list: Vec<Piece>,
-    pub(crate) depth: u32,
+    list: Vec<Piece>,
+    depth: u32,
 }
 
 impl Pieces {
@@ -65,7 +65,7 @@ impl Pieces {
             .iter()
             .filter(|piece| piece.positions.has(position))
             .map(|piece| piece.span)
-            .fold(self.depth as usize, |best, span| best.min(span))
+            .fold(self.depth as usize, usize::min)
     }
 
     // The least distance of the tails of a length that lead on to the position, up to a greatest one.
@@ -76,7 +76,7 @@ impl Pieces {
             .iter()
             .filter(|piece| piece.leads_on(span, position))
             .map(|piece| piece.nearest)
-            .fold(most, |best, nearest| best.min(nearest))
+            .fold(most, usize::min)
     }
 
     // How far a search may go on from the position.

@@ -1,13 +1,10 @@
-// A tail, and the tails that are one code longer.
-ghost use Rattle.std.specs.Prelude.{◌≡◌, [], ◌∷◌, ◌++◌, ◌&&◌, ◌==◌, map, length, is_some, IfOk, OnOk};
-ghost use Rattle.std.specs.List.{flat_map};
+// A tail.
+ghost use Rattle.std.specs.Prelude.{◌≡◌, [], ◌∷◌, ◌&&◌, ◌==◌, length, is_some, IfOk};
 ghost use Rattle.regular.specs.Language.{Regex};
-ghost use Rattle.syntax.specs.Tree.{language};
-ghost use Rattle.distance.specs.Found.{longer};
-ghost use Rattle.shift.specs.Led.{excess_of, led};
+ghost use Rattle.shift.specs.Led.{led};
+ghost use Rattle.shift.specs.Excess.{excess_of};
 
 use positions::Positions;
-use single::SingleStep;
 use std::alloc::{AllocError, Global};
 use std::marker::Model;
 
@@ -64,35 +61,18 @@ impl Tail {
         self.codes.len() == depth && self.excess(head).is_some()
     }
 
-    // The tail with a code more before it.
-    fn behind(&self, heap: Global, code: u8, positions: Positions) -> Result<Tail, AllocError>
+    // The tail with a code more before it, which leads to the positions.
+    pub(crate) fn preceded_by(
+        &self,
+        heap: Global,
+        code: u8,
+        positions: Positions,
+    ) -> Result<Tail, AllocError>
         ensures { IfOk result (λ t. t ≡ record { codes = code ∷ self.now.codes; positions = positions }) }
     {
         let mut codes = Vec::new(heap);
         codes.push(code)?;
         codes.extend_from_slice(&self.codes)?;
         Ok(Tail { codes, positions })
-    }
-
-    // Adds the tails that are one code longer to a list, one for each kind of code that may stand before this one.
-    pub(crate) fn add_longer(
-        &self,
-        heap: Global,
-        engine: &SingleStep,
-        kinds: &[u8],
-        list: &mut Vec<Tail>,
-    ) -> Result<(), AllocError>
-        requires { self.now ≡ led (language engine.now.expression.tree) self.now.codes }
-        ensures { OnOk result (list.new.items ≡ list.old.items ++ map (led (language engine.now.expression.tree)) (flat_map (longer (language engine.now.expression.tree) self.now.codes) kinds.now)) }
-    {
-        let next = self.positions.follow(engine.arrows());
-        let held = engine.held();
-        for code in kinds {
-            let positions = next & held[*code as usize];
-            if !positions.is_empty() {
-                list.push(self.behind(heap, *code, positions)?)?;
-            }
-        }
-        Ok(())
     }
 }

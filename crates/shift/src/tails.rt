@@ -1,13 +1,13 @@
 // The tails by lengths, and their distances.
-ghost use Rattle.std.specs.Prelude.{◌≡◌, ◌<◌, ◌≤◌, map, length, IfOk, MatchOption, vec_len};
-ghost use Rattle.std.specs.List.{flat_map};
+ghost use Rattle.std.specs.Prelude.{◌≡◌, IfOk};
 ghost use Rattle.syntax.specs.Tree.{language};
 ghost use Rattle.distance.specs.Extremes.{finite, lesser};
-ghost use Rattle.distance.specs.Found.{first_of, longer, opens, second_of};
-ghost use Rattle.shift.specs.Led.{AllLed, led, words};
-ghost use Rattle.shift.specs.Listed.{ListedFor, distance, longer_words};
+ghost use Rattle.distance.specs.Found.{first_of, opens, second_of};
+ghost use Rattle.shift.specs.Led.{words};
+ghost use Rattle.shift.specs.Excess.{distance};
+ghost use Rattle.shift.specs.Listed.{ListedFor};
 
-use crate::kinds::find_kinds;
+use crate::kinds::Kinds;
 use crate::tail::Tail;
 use single::SingleStep;
 use std::alloc::{AllocError, Global};
@@ -22,38 +22,17 @@ pub struct Tails {
     pub(crate) depth: u32,
 }
 
-// The tails that are one code longer than those of a list, if there is room for them.
-fn longer_than(
-    heap: Global,
-    engine: &SingleStep,
-    kinds: &[u8],
-    level: &[Tail],
-    room: usize,
-) -> Result<Option<Vec<Tail>>, AllocError>
-    requires { AllLed (language engine.now.expression.tree) level.now }
-    ensures { IfOk result (λ o. MatchOption o (room < length (longer_words (language engine.now.expression.tree) kinds.now (words level.now))) (λ v. (v.items ≡ map (led (language engine.now.expression.tree)) (longer_words (language engine.now.expression.tree) kinds.now (words level.now))) × (vec_len v ≤ room))) }
-{
-    let mut list = Vec::new(heap);
-    for tail in level {
-        tail.add_longer(heap, engine, kinds, &mut list)?;
-        if list.len() > room {
-            return Ok(None);
-        }
-    }
-    Ok(Some(list))
-}
-
 impl Tails {
     pub(crate) fn of(heap: Global, engine: &SingleStep) -> Result<Tails, AllocError>
         ensures { IfOk result (ListedFor (language engine.now.expression.tree)) }
     {
-        let kinds = find_kinds(heap, engine)?;
+        let kinds = Kinds::of(heap, engine)?;
         let mut list = Vec::new(heap);
         list.push(Tail::empty(heap))?;
         let mut start = 0;
         let shortest = engine.shortest();
         for depth in 0..shortest {
-            match longer_than(heap, engine, &kinds, &list[start..], LIMIT - list.len())? {
+            match kinds.longer_than(heap, &list[start..], LIMIT - list.len())? {
                 None => return Ok(Tails { list, depth }),
                 Some(mut longer) => {
                     start = list.len();

@@ -1,6 +1,6 @@
 use Rattle.std.proofs.Common.{ap, length, ◌∙◌, not}
 use Rattle.std.specs.Bool.{then_some}
-use Rattle.shift.specs.Led.{excess_of}
+use Rattle.shift.specs.Excess.{excess_of}
 use Rattle.shift.proofs.Distances.{excess_none, excess_some}
 use Rattle.shift.proofs.tail.Tail.excess.Goals as goal
 

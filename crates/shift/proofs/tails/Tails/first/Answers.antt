@@ -2,8 +2,9 @@ use Rattle.std.proofs.Common.{sym, ap, ◌∙◌, rules, tests}
 use Rattle.std.proofs.lemmas.Iterator.{YieldsList-from_slice}
 use Rattle.std.proofs.lemmas.Iterator.Consumers.{min_from_yields_List, YieldsList-at, YieldsList-from_filter_map}
 use Rattle.std.proofs.lemmas.Iterator.Adapters.{option_map_id}
-use Rattle.shift.specs.Led.{Led, excess_of}
-use Rattle.shift.specs.Listed.{distance}
+use Rattle.shift.specs.Led.{Led}
+use Rattle.shift.specs.Excess.{excess_of}
+use Rattle.shift.specs.Excess.{distance}
 use Rattle.shift.proofs.Distances.{first_reduced}
 use Rattle.shift.proofs.tails.Tails.first.Goals as goal
 

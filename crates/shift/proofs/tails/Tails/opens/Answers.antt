@@ -1,7 +1,8 @@
 use Rattle.std.proofs.Common.{◌&&◌, eqb, length, is_some, ◌∙◌, rules, tests}
 use Rattle.std.proofs.lemmas.Iterator.{YieldsList-from_slice}
 use Rattle.std.proofs.lemmas.Iterator.Search.{any_from_yields_List}
-use Rattle.shift.specs.Led.{Led, excess_of}
+use Rattle.shift.specs.Led.{Led}
+use Rattle.shift.specs.Excess.{excess_of}
 use Rattle.shift.proofs.Distances.{opens_any}
 use Rattle.shift.proofs.tails.Tails.opens.Goals as goal
 
