@@ -1,47 +1,21 @@
 -- The table of the codes that a simple atom holds. Assumes nothing.
-use Rattle.std.proofs.Common.{◌≡◌, ℕ, zero, suc, ◌+◌, ◌-◌, ◌*◌, ◌<◌, ◌≤◌, Bool, true, false, cond, not, ◌&&◌, eqb, leb, ◌≢◌, ◌↔◌, ◌||◌, ◌⊎◌, inl, inr, List, length, get_or, set, replicate, IfSome, Some, None, Option, sym, refl, ap, ◌∙◌, ⊎_elim, arith, length-set, get_or-set_other, get_or-set_same, below_more}
-use lib.ListN.{length-replicate}
+use Rattle.std.proofs.Common.{◌≡◌, ℕ, zero, suc, ◌+◌, ◌-◌, ◌*◌, ◌<◌, ◌≤◌, Bool, true, false, cond, not, ◌&&◌, eqb, leb, ◌↔◌, ◌||◌, ◌⊎◌, inl, inr, List, length, get_or, IfSome, Some, None, Option, sym, refl, ap, ◌∙◌, ⊎_elim, arith}
 use Rattle.std.specs.List.{list_any, range_with_len}
 use Rattle.std.proofs.Math.Bool.{or-true}
-use Rattle.std.proofs.lemmas.List.{get_or_past}
-use Rattle.std.proofs.lemmas.Bool.{cases_lt, lt-leb, le-leb, lt-ltb, leb-true, and_parts, false≢true, or_cases}
+use Rattle.std.proofs.lemmas.Bool.{cases_lt, le-leb, lt-ltb, leb-true, and_parts, false≢true, or_cases}
 use Rattle.std.proofs.lemmas.Bool.Decides.{Decides-below_or, nat_tests}
 use Rattle.regular.specs.Positions.{some_below}
 use Rattle.syntax.specs.declared.mode.Mode.{Mode}
 use Rattle.syntax.specs.declared.mode.Mode.TheVariants.{Bytes, Fields}
-use Rattle.syntax.specs.declared.lexer.Token.{Token}
 use Rattle.syntax.specs.Grammar.{Simple, dot, unit, last, more, single, range, pair, top, code, digit, held, holds, bare}
 use Rattle.syntax.specs.Grammar.{set as a_set}
 use Rattle.syntax.specs.Tree.{only, only_if}
-use Rattle.syntax.specs.Tokens.{Atomic, Table}
+use Rattle.syntax.specs.Tokens.{Table}
 use Rattle.syntax.proofs.Options.{some_same, none_some}
 
 pub top_low : (m : Mode) → top m ≤ 255
 top_low Bytes = omega arith
 top_low Fields = omega arith
-
-pub record Filling (m : Mode) (t : Token) (table : List Bool) (n : ℕ) : Type 0 where
-  pub long : length table ≡ 256
-  pub each : (s : Simple m) → Atomic m s t → (k : ℕ) → k < n → get_or table k false ≡ holds m s k
-
-module _ (m : Mode) (t : Token) where
-  pub filling_none : Filling m t (replicate 256 false) 0
-  filling_none = record { long = length-replicate 256 false; each = λ s a k l. absurd (omega arith) }
-
-  pub filling_more : (table : List Bool) (n : ℕ) → Filling m t table n → n < 256 → (b : Bool) → ((s : Simple m) → Atomic m s t → b ≡ holds m s n) → Filling m t (set table n b) (n + 1)
-  filling_more table n h l b e = record {
-    long = length-set table n b ∙ h.long;
-    each = λ s a. below_more (λ k. get_or (set table n b) k false ≡ holds m s k) n
-        (λ k less. let ne : k ≢ n = omega arith in get_or-set_other table n k b false ne ∙ h.each s a k less)
-        (get_or-set_same table n b false (omega (arith, h.long)) ∙ e s a);
-  }
-
-  pub filling_all : (table : List Bool) (n : ℕ) → Filling m t table n → 256 ≤ n → (s : Simple m) → Atomic m s t → Table m s table
-  filling_all table n h l s a c =
-      ⊎_elim
-      (λ less. h.each s a c (omega arith))
-      (λ past. get_or_past table c false (omega (arith, h.long)) ∙ ap (λ z. z && held m s c) (sym (lt-leb c (top m) (omega (arith, top_low m)))))
-      (cases_lt c 256)
 
 -- an atom that is written as a value and no more holds that value and no other
 none_below : (n : ℕ) (f : ℕ → Bool) → ((k : ℕ) → f k ≡ false) → some_below n f ≡ false
