@@ -1,12 +1,12 @@
 -- The members of a set, from its bytes. Assumes nothing.
-use Rattle.std.proofs.Common.{◌≡◌, ℕ, zero, suc, ◌+◌, ◌-◌, ◌<◌, ◌≤◌, eqb, List, [], ◌∷◌, length, drop, Some, None, Option, refl, ap, ◌∙◌, subst, arith, MatchOption}
+use Rattle.std.proofs.Common.{◌≡◌, ℕ, zero, suc, ◌+◌, ◌-◌, ◌*◌, ◌<◌, ◌≤◌, eqb, List, [], ◌∷◌, length, drop, Some, None, option_and_then, option_map, Option, refl, ap, ◌∙◌, subst, arith, MatchOption}
 use Rattle.std.proofs.lemmas.Bool.{cond_both}
 use Rattle.syntax.specs.declared.mode.Mode.{Mode}
 use Rattle.syntax.specs.declared.mode.Mode.TheVariants.{Bytes, Fields}
 use Rattle.syntax.specs.declared.members.Member as members
 use Rattle.syntax.specs.declared.members.Members as cursors
 use Rattle.syntax.specs.Grammar.{digit}
-use Rattle.syntax.specs.Lexer.{Took, value_of, pair_from, second_digit, starts}
+use Rattle.syntax.specs.Lexer.{Took, digit_of, value_of, starts}
 use Rattle.syntax.specs.Members.{behind, behind_separator, to_last, from_first, member_of, followed, member_list, listed}
 
 -- what is left behind a value or a member is shorter
@@ -19,8 +19,8 @@ value_shorter Bytes [] = tt
 value_shorter Bytes (b ∷ []) = cond_both (eqb b 92) _ _ (Shorter (b ∷ [])) (λ _. tt) (λ _. omega arith)
 value_shorter Bytes (b ∷ c ∷ w) = cond_both (eqb b 92) _ _ (Shorter (b ∷ c ∷ w)) (λ _. omega arith) (λ _. omega arith)
 value_shorter Fields [] = tt
-value_shorter Fields (a ∷ []) = cond_both (digit a) _ _ (λ z. Shorter (a ∷ []) (pair_from z)) (λ _. tt) (λ _. tt)
-value_shorter Fields (a ∷ b ∷ w) = cond_both (digit a) _ _ (λ z. Shorter (a ∷ b ∷ w) (pair_from z)) (λ _. cond_both (digit b) _ _ (λ z. Shorter (a ∷ b ∷ w) (second_digit (a - 48) z)) (λ _. omega arith) (λ _. tt)) (λ _. tt)
+value_shorter Fields (a ∷ []) = cond_both (digit a) _ _ (λ z. Shorter (a ∷ []) (option_and_then (λ x. option_map (λ y. (10 * x.0 + y.0, y.1)) (digit_of x.1)) z)) (λ _. tt) (λ _. tt)
+value_shorter Fields (a ∷ b ∷ w) = cond_both (digit a) _ _ (λ z. Shorter (a ∷ b ∷ w) (option_and_then (λ x. option_map (λ y. (10 * x.0 + y.0, y.1)) (digit_of x.1)) z)) (λ _. cond_both (digit b) _ _ (λ z. Shorter (a ∷ b ∷ w) (option_map (λ y. (10 * (a - 48) + y.0, y.1)) z)) (λ _. omega arith) (λ _. tt)) (λ _. tt)
 
 behind_short : (b : ℕ) (w : List ℕ) → length (behind b w) ≤ length w
 behind_short b [] = omega arith

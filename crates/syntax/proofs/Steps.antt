@@ -11,7 +11,7 @@ use Rattle.syntax.specs.declared.lexer.Token.TheVariants.{Unit}
 use Rattle.syntax.specs.Grammar.{Members, opening, closing, caret, written_members}
 use Rattle.syntax.specs.Lexer.{Before, Left, Ate, Took, front, starts, until, value_of}
 use Rattle.syntax.specs.Tokens.{Lexeme, IsSet, Stands, sign_token, written_lexeme}
-use Rattle.syntax.proofs.Options.{some_same, none_some}
+use Rattle.syntax.proofs.Options.{none_some}
 use Rattle.syntax.proofs.Lexes.{Head, sign_head, set_head, unit_head, lexeme_head, caret_found, closing_found, value_found}
 
 pub left_before : {m : Mode} {u w : List ℕ} {old new : Lexer} → Before m u old → Left w old new → Before m w new
@@ -58,16 +58,6 @@ module _ {m : Mode} {old : Lexer} (k : Lexeme m) (w : List ℕ) (h : Before m (w
   -- what is found of a sign's byte, and of another
   front_is : (b : ℕ) (u : List ℕ) (o : Option Token) → old.rest.now ≡ b ∷ u → sign_token b ≡ o → front sign_token old.rest.now ≡ option_map (λ x. (x, u)) o
   front_is b u o e f = ap (front sign_token) e ∙ ap (option_map (λ x. (x, u))) f
-
-  pub sign_read : (t : Token) (new : Lexer) → Took (Some t) (front sign_token old.rest.now) old new → Stands m k old.place t × Before m w new
-  sign_read t new took = by_head _ (λ b u e i. go k b u i (λ o f. subst (λ z. Took (Some t) z old new) (front_is b (u ++ w) o e f) took))
-    where
-      go : (k : Lexeme m) (b : ℕ) (u : List ℕ) → Head m b u k → ((o : Option Token) → sign_token b ≡ o → Took (Some t) (option_map (λ x. (x, u ++ w)) o) old new) → Stands m k old.place t × Before m w new
-      go k b u (sign_head s f st e _) took =
-          let (same, left) = took (Some s) f in
-          (subst (Stands m k old.place) (sym (some_same same)) (st old.place), left_before h (subst (λ z. Left (z ++ w) old new) e left))
-      go k b u (set_head n xs f _ _) took = none_some (sym (took None f))
-      go k b u (unit_head a x f _) took = none_some (sym (took None f))
 
   -- where no sign was found
   module _ (none : Took None (front sign_token old.rest.now) old old) where

@@ -1,6 +1,8 @@
 -- The table of the codes that a simple atom holds. Assumes nothing.
-use Rattle.std.proofs.Common.{◌≡◌, ℕ, zero, suc, ◌+◌, ◌-◌, ◌*◌, ◌<◌, ◌≤◌, Bool, true, false, cond, not, ◌&&◌, eqb, leb, ◌≢◌, ◌↔◌, ◌||◌, ◌⊎◌, inl, inr, List, length, get_or, set, replicate, IfSome, Some, None, Option, sym, refl, ap, ◌∙◌, ⊎_elim, arith, length-set, get_or-set_other, get_or-set_same, below_more}
-use lib.ListN.{length-replicate}
+use Rattle.std.proofs.Common.{◌≡◌, ℕ, zero, suc, ◌+◌, ◌-◌, ◌*◌, ◌<◌, ◌≤◌, Bool, true, false, cond, not, ◌&&◌, eqb, leb, ◌↔◌, ◌||◌, ◌⊎◌, inl, inr, List, length, get_or, IfSome, Some, None, Option, sym, refl, ap, ◌∙◌, subst, ⊎_elim, arith}
+use Rattle.std.specs.Array.{IsFromFnResult, IsFromFnResultFrom}
+use denote.Param.Members.{Mut}
+use Rattle.std.specs.Fn.{Called}
 use Rattle.std.specs.List.{list_any, range_with_len}
 use Rattle.std.proofs.Math.Bool.{or-true}
 use Rattle.std.proofs.lemmas.List.{get_or_past}
@@ -9,39 +11,15 @@ use Rattle.std.proofs.lemmas.Bool.Decides.{Decides-below_or, nat_tests}
 use Rattle.regular.specs.Positions.{some_below}
 use Rattle.syntax.specs.declared.mode.Mode.{Mode}
 use Rattle.syntax.specs.declared.mode.Mode.TheVariants.{Bytes, Fields}
-use Rattle.syntax.specs.declared.lexer.Token.{Token}
 use Rattle.syntax.specs.Grammar.{Simple, dot, unit, last, more, single, range, pair, top, code, digit, held, holds, bare}
 use Rattle.syntax.specs.Grammar.{set as a_set}
 use Rattle.syntax.specs.Tree.{only, only_if}
-use Rattle.syntax.specs.Tokens.{Atomic, Table}
+use Rattle.syntax.specs.Tokens.{Table}
 use Rattle.syntax.proofs.Options.{some_same, none_some}
 
 pub top_low : (m : Mode) → top m ≤ 255
 top_low Bytes = omega arith
 top_low Fields = omega arith
-
-pub record Filling (m : Mode) (t : Token) (table : List Bool) (n : ℕ) : Type 0 where
-  pub long : length table ≡ 256
-  pub each : (s : Simple m) → Atomic m s t → (k : ℕ) → k < n → get_or table k false ≡ holds m s k
-
-module _ (m : Mode) (t : Token) where
-  pub filling_none : Filling m t (replicate 256 false) 0
-  filling_none = record { long = length-replicate 256 false; each = λ s a k l. absurd (omega arith) }
-
-  pub filling_more : (table : List Bool) (n : ℕ) → Filling m t table n → n < 256 → (b : Bool) → ((s : Simple m) → Atomic m s t → b ≡ holds m s n) → Filling m t (set table n b) (n + 1)
-  filling_more table n h l b e = record {
-    long = length-set table n b ∙ h.long;
-    each = λ s a. below_more (λ k. get_or (set table n b) k false ≡ holds m s k) n
-        (λ k less. let ne : k ≢ n = omega arith in get_or-set_other table n k b false ne ∙ h.each s a k less)
-        (get_or-set_same table n b false (omega (arith, h.long)) ∙ e s a);
-  }
-
-  pub filling_all : (table : List Bool) (n : ℕ) → Filling m t table n → 256 ≤ n → (s : Simple m) → Atomic m s t → Table m s table
-  filling_all table n h l s a c =
-      ⊎_elim
-      (λ less. h.each s a c (omega arith))
-      (λ past. get_or_past table c false (omega (arith, h.long)) ∙ ap (λ z. z && held m s c) (sym (lt-leb c (top m) (omega (arith, top_low m)))))
-      (cases_lt c 256)
 
 -- an atom that is written as a value and no more holds that value and no other
 none_below : (n : ℕ) (f : ℕ → Bool) → ((k : ℕ) → f k ≡ false) → some_below n f ≡ false
@@ -82,6 +60,9 @@ single_exact m s codes h l (Some c) e b = only_true c codes b l (λ k. h k ∙ b
 pub some_below_is : (f : ℕ → Bool) (n : ℕ) → some_below n f ≡ true ↔ ((k : ℕ) × (k < n) × (f k ≡ true))
 some_below_is f n = Decides-below_or f (λ k. f k ≡ true) (λ m. some_below m f) (λ k. (λ e. e, λ e. e)) refl (λ _. refl) n
 
+same_or_later : (a k : ℕ) → a ≤ k → (a ≡ k) ⊎ (a < k)
+same_or_later a k l = ⊎_elim inr (λ h. inl (omega arith)) (cases_lt a k)
+
 -- a search of the numbers below n
 any_from : (f : ℕ → Bool) (a n : ℕ) → list_any f (range_with_len a n) ≡ true ↔ ((k : ℕ) × (a ≤ k) × (k < a + n) × (f k ≡ true))
 any_from f a zero = (λ e. absurd (false≢true e), λ (k, l, h, e). absurd (omega arith))
@@ -89,9 +70,6 @@ any_from f a (suc n) = (
   λ e. ⊎_elim (λ h. (a, omega arith, omega arith, h)) (λ h. let (k, l, m, i) = (any_from f (a + 1) n).0 h in (k, omega arith, omega arith, i)) (or_cases (f a) _ e),
   λ (k, l, m, e). ⊎_elim (λ h. ap (λ t. t || list_any f (range_with_len (a + 1) n)) (ap f h ∙ e)) (λ h. ap (λ t. f a || t) ((any_from f (a + 1) n).1 (k, omega arith, omega arith, e)) ∙ or-true (f a)) (same_or_later a k l),
 )
-  where
-    same_or_later : (a k : ℕ) → a ≤ k → (a ≡ k) ⊎ (a < k)
-    same_or_later a k l = ⊎_elim inr (λ h. inl (omega arith)) (cases_lt a k)
 
 same_test : (a b : Bool) → (a ≡ true → b ≡ true) → (b ≡ true → a ≡ true) → a ≡ b
 same_test true true f g = refl
@@ -106,3 +84,21 @@ any_held m s =
     same_test _ _
     (λ e. let (k, _, _, h) = (any_from (holds m s) 0 256).0 e in let l = leb-true k (top m) (and_parts (leb k (top m)) (held m s k) h).0 in some.1 (k, omega arith, h))
     (λ e. let (k, l, h) = some.0 e in (any_from (holds m s) 0 256).1 (k, omega arith, omega (arith, top_low m), h))
+
+-- the table that is made by a call at each code
+module _ {F : Type 0} {g : Mut F (ℕ × Unit {0}) Bool} {f : F} (m : Mode) (s : Simple m) (ys : List Bool) where
+  made : ((x : ℕ) (y : Bool) (q : F) → x < 256 → Called g f (x, tt) y q → (q ≡ f) × (y ≡ holds m s x)) → (n i : ℕ) → i + n ≡ 256 → (p : F) → p ≡ f → IsFromFnResultFrom g p ys i n → (k : ℕ) → i ≤ k → k < i + n → get_or ys k false ≡ holds m s k
+  made calls zero i e p same r k l h = absurd (omega arith)
+  made calls (suc n) i e p same (q, y, at, called, others) k l h =
+      let (stays, is) = calls i y q (omega arith) (subst (λ p. Called g p (i, tt) y q) same called) in
+      ⊎_elim
+      (λ here. ap (λ k. get_or ys k false) (sym here) ∙ at.1 false ∙ is ∙ ap (holds m s) here)
+      (λ past. made calls n (i + 1) (omega arith) q stays others k (omega arith) (omega arith))
+      (same_or_later i k l)
+
+  pub table_made : IsFromFnResult g f ys 256 → ((x : ℕ) (y : Bool) (q : F) → x < 256 → Called g f (x, tt) y q → (q ≡ f) × (y ≡ holds m s x)) → Table m s ys
+  table_made r calls c =
+      ⊎_elim
+      (λ less. made calls 256 0 refl f refl r.each c (omega arith) less)
+      (λ past. get_or_past ys c false (omega (arith, r.long)) ∙ ap (λ z. z && held m s c) (sym (lt-leb c (top m) (omega (arith, top_low m)))))
+      (cases_lt c 256)

@@ -1,5 +1,5 @@
--- What the lexer finds at the front of the bytes: values, marks, members, and the token of a lexeme. Assumes nothing.
-use Rattle.std.specs.Prelude.{◌≡◌, ℕ, suc, ◌+◌, ◌-◌, ◌*◌, ◌<◌, Bool, false, cond, not, ◌&&◌, List, [], ◌∷◌, ◌++◌, length, Some, None, Option, ◌==◌, option_map}
+-- What the lexer finds at the front of the bytes, and what it leaves. Assumes nothing.
+use Rattle.std.specs.Prelude.{◌≡◌, ℕ, suc, ◌+◌, ◌-◌, ◌*◌, ◌<◌, Bool, false, cond, not, ◌&&◌, List, [], ◌∷◌, ◌++◌, length, Some, None, Option, ◌==◌, option_and_then, option_map}
 use Rattle.syntax.specs.declared.mode.Mode.{Mode}
 use Rattle.syntax.specs.declared.mode.Mode.TheVariants.{Bytes, Fields}
 use Rattle.syntax.specs.declared.lexer.Lexer.{Lexer}
@@ -38,7 +38,7 @@ abbrev pub starts : ℕ → List ℕ → Bool
 starts b [] = false
 starts b (c ∷ w) = c == b
 
--- the code of the value that bytes begin with, and the bytes behind it
+-- what bytes begin with, and the bytes behind it: the code of a unit, a digit, two digits, and a value
 abbrev pub escaped_of : List ℕ → Option (ℕ × List ℕ)
 escaped_of [] = None
 escaped_of (b ∷ w) = Some (cond (b == 110) 10 b, w)
@@ -51,16 +51,8 @@ abbrev pub digit_of : List ℕ → Option (ℕ × List ℕ)
 digit_of [] = None
 digit_of (b ∷ w) = cond (digit b) (Some (b - 48, w)) None
 
-abbrev pub second_digit : ℕ → Option (ℕ × List ℕ) → Option (ℕ × List ℕ)
-second_digit a None = None
-second_digit a (Some x) = Some (10 * a + x.0, x.1)
-
-abbrev pub pair_from : Option (ℕ × List ℕ) → Option (ℕ × List ℕ)
-pair_from None = None
-pair_from (Some x) = second_digit x.0 (digit_of x.1)
-
 abbrev pub pair_of : List ℕ → Option (ℕ × List ℕ)
-pair_of w = pair_from (digit_of w)
+pair_of w = option_and_then (λ x. option_map (λ y. (10 * x.0 + y.0, y.1)) (digit_of x.1)) (digit_of w)
 
 abbrev pub value_of : Mode → List ℕ → Option (ℕ × List ℕ)
 value_of Bytes w = unit_of w

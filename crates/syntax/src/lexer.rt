@@ -205,13 +205,10 @@ impl<'a> Lexer<'a> {
         ensures short { length self.new.rest.now ≤ length self.old.rest.now }
     {
         let negated = self.eats(b'^');
-        let members = self.split(self.closing());
-        if self.eats(self.mode.closes()) {
-            let members = Members { lexer: members };
-            Some(Token::Set { negated, members })
-        } else {
-            None
-        }
+        let lexer = self.split(self.closing());
+        let members = Members { lexer };
+        self.eats(self.mode.closes())
+            .then_some(Token::Set { negated, members })
     }
 
     // The next token.
@@ -237,11 +234,7 @@ impl<'a> Lexer<'a> {
         ensures { result ≡ sole (value_of self.entry.mode self.entry.rest.now) }
     {
         let code = self.value()?;
-        if self.rest.is_empty() {
-            Some(code)
-        } else {
-            None
-        }
+        self.rest.is_empty().then_some(code)
     }
 
     // Whether an item begins here.

@@ -70,19 +70,14 @@ impl Findings {
     fn verdict(self) -> Result<(), Fault>
         ensures { result ≡ verdict_of self }
     {
-        if let Some(place) = self.deep {
-            return Err(Fault::TooDeep { place });
-        }
-        if let Some(place) = self.reversed {
-            return Err(Fault::ReversedRange { place });
-        }
-        if let Some(place) = self.empty {
-            return Err(Fault::EmptySet { place });
-        }
-        if let Some(place) = self.over {
-            return Err(Fault::TooManyPositions { place });
-        }
-        Ok(())
+        let fault = match (self.deep, self.reversed, self.empty, self.over) {
+            (Some(place), _, _, _) => Fault::TooDeep { place },
+            (_, Some(place), _, _) => Fault::ReversedRange { place },
+            (_, _, Some(place), _) => Fault::EmptySet { place },
+            (_, _, _, Some(place)) => Fault::TooManyPositions { place },
+            _ => return Ok(()),
+        };
+        Err(fault)
     }
 }
 

@@ -39,11 +39,7 @@ pub(crate) fn codes(mode: Mode, token: Token<'_>) -> [bool; 256]
     ensures table { (s : Simple mode) → Atomic mode s token.entry → Table mode s result }
     ensures long { length result ≡ 256 }
 {
-    let mut table = [false; 256];
-    for code in 0..256 {
-        table[code] = holds_code(mode, token, code as u8);
-    }
-    table
+    std::array::from_fn(|code| holds_code(mode, token, code as u8))
 }
 
 pub(crate) fn holds_nothing(mode: Mode, token: Token<'_>) -> bool

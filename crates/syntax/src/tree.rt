@@ -34,29 +34,23 @@ pub enum Node {
 pub(crate) fn grouped(heap: Global, a: Node) -> Result<Node, Fault>
     ensures { MatchResult result (λ e. Grouped a e) (λ f. f ≡ Memory) }
 {
-    let inner = Box::new(heap, a)?;
-    Ok(Node::Group(inner))
+    Ok(Node::Group(Box::new(heap, a)?))
 }
 
 pub(crate) fn joined(heap: Global, a: Node, b: Node) -> Result<Node, Fault>
     ensures { MatchResult result (λ e. Joined a b e) (λ f. f ≡ Memory) }
 {
-    let left = Box::new(heap, a)?;
-    let right = Box::new(heap, b)?;
-    Ok(Node::Join(left, right))
+    Ok(Node::Join(Box::new(heap, a)?, Box::new(heap, b)?))
 }
 
 pub(crate) fn chosen(heap: Global, a: Node, b: Node) -> Result<Node, Fault>
     ensures { MatchResult result (λ e. Chosen a b e) (λ f. f ≡ Memory) }
 {
-    let left = Box::new(heap, a)?;
-    let right = Box::new(heap, b)?;
-    Ok(Node::Either(left, right))
+    Ok(Node::Either(Box::new(heap, a)?, Box::new(heap, b)?))
 }
 
 pub(crate) fn marked(heap: Global, mark: Mark, a: Node) -> Result<Node, Fault>
     ensures { MatchResult result (λ e. Repeated (mark_of mark) a e) (λ f. f ≡ Memory) }
 {
-    let inner = Box::new(heap, a)?;
-    Ok(Node::Marked(mark, inner))
+    Ok(Node::Marked(mark, Box::new(heap, a)?))
 }

@@ -1,14 +1,8 @@
 -- `check_grammar` meets its contract. Assumes nothing.
-use Rattle.std.proofs.Common.{sym, refl, arith}
+use Rattle.std.proofs.Common.{sym, refl}
 use Rattle.syntax.specs.Reading.{not_in_grammar}
 use Rattle.syntax.proofs.Heads.{one_more, stuck, read_whole, read_short}
 use Rattle.syntax.proofs.grammar.check_grammar.Goals as goal
-
-pub loop-place-init : goal.loop-place-init
-loop-place-init c = record { low = omega arith; so_far = refl }
-
-pub step-requires : goal.step-requires
-step-requires c = omega (arith, c.loop-place.invariant.low, c.requires)
 
 pub returns-in_default : goal.returns-in_default
 returns-in_default c = not_in_grammar _ refl c.requires (stuck _ _ _ _ _ c.loop-place-test.true c.loop-place.invariant.so_far (sym c.in_default.ensures.value))
