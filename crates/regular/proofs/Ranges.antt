@@ -13,6 +13,10 @@ module _ (a b : Regex) {i q : ℕ} where
   parts_in f g (inl x) = let h = f x in omega arith
   parts_in f g (inr y) = let h = g y in omega arith
 
+  -- .. and a position of the two is one of either
+  pub part : IsPosition (join a b) i q → IsPosition a i q ⊎ IsPosition b (i + size a) q
+  part l = grind arith
+
   -- two facts of a position are of the same part
   pub same_part : {A B C D : Type 0} → (A → IsPosition a i q) → (B → IsPosition b (i + size a) q) → (C → IsPosition a i q) → (D → IsPosition b (i + size a) q) → ((A ⊎ B) × (C ⊎ D)) ↔ ((A × C) ⊎ (B × D))
   same_part {A} {B} {C} {D} f g h k = (go, ⊎_elim (λ (x, y). (inl x, inl y)) (λ (x, y). (inr x, inr y)))
