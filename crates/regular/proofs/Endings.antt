@@ -1,8 +1,8 @@
 -- What `starting`, `ending` and `listed` hold, and how they grow. Assumes nothing.
-use Rattle.std.proofs.Common.{◌≡◌, ℕ, zero, suc, ◌+◌, ◌-◌, ◌<◌, ◌≤◌, Bool, true, false, cond, ◌⊎◌, ◌↔◌, List, [], ◌∷◌, ◌++◌, length, get_or, sym, refl, subst, inl, inr, ⊎_elim, append_assoc, append-nil, add-zero, arith}
+use Rattle.std.proofs.Common.{◌≡◌, ℕ, zero, suc, ◌+◌, ◌-◌, ◌<◌, ◌≤◌, Bool, true, false, cond, ◌↔◌, List, [], ◌∷◌, ◌++◌, length, get_or, refl, subst, append_assoc, append-nil, add-zero, arith}
 use mathlib.Core.Logic.Iff.{symm as flip}
 use Rattle.std.proofs.Math.Nat.{add-sub_of_le}
-use Rattle.std.proofs.lemmas.Bool.{cases_lt, cond_both, false_from_ne_true}
+use Rattle.std.proofs.lemmas.Bool.{cond_both, false_from_ne_true}
 use Rattle.std.proofs.lemmas.Bool.Decides.{same_from_decides, not_from_Decides}
 use Rattle.regular.specs.Language.{Regex, Word, Tail, Inhabited}
 use Rattle.regular.specs.Positions.{accepted, tailed}
@@ -56,44 +56,25 @@ module _ (r : Regex) (t : List ℕ) (e : ℕ) where
   pub starting_sorted : (n : ℕ) → Sorted Precedes (starting r t e n)
   starting_sorted zero = tt
   starting_sorted (suc n) =
-      by_start n (Sorted Precedes)
-      (λ _. (λ p i. let (end, l, _) = (in_starting n p).0 i in inr (sym end, l), starting_sorted n))
-      (λ _. starting_sorted n)
+      by_start n (Sorted Precedes) (λ _. (λ p i. grind (arith, (in_starting n p).0 i), starting_sorted n)) (λ _. starting_sorted n)
 
   starting_few : (n : ℕ) → length (starting r t e n) ≤ n
   starting_few zero = omega arith
-  starting_few (suc n) = let ih = starting_few n in by_start n (λ l. length l ≤ suc n) (λ _. omega arith) (λ _. omega arith)
+  starting_few (suc n) = grind (arith, starting_few n)
 
 module _ (r : Regex) (t : List ℕ) where
   pub ending_few : (e : ℕ) → length (ending r t e) ≤ e + 1
   ending_few e = omega (arith, starting_few r t e (suc e))
 
   pub in_listed : (f n : ℕ) (p : ℕ × ℕ) → In p (listed r t f n) ↔ ((f ≤ p.1) × (p.1 < f + n) × (p.0 ≤ p.1) × Word r (between t p.0 p.1))
-  in_listed f zero p = (λ h. absurd h, λ (a, b, _, _). absurd (omega arith))
-  in_listed f (suc n) p = in_append p (listed r t f n) (ending r t (f + n)) ⨾ sum (in_listed f n p) (in_starting r t (f + n) (suc (f + n)) p) ⨾ (to, from)
-    where
-      Here : ℕ → Type 0
-      Here n = (f ≤ p.1) × (p.1 < f + n) × (p.0 ≤ p.1) × Word r (between t p.0 p.1)
-
-      Last : Type 0
-      Last = (p.1 ≡ f + n) × (p.0 < suc (f + n)) × Word r (between t p.0 (f + n))
-
-      to : Here n ⊎ Last → Here (suc n)
-      to (inl (a, b, c, w)) = (a, omega arith, c, w)
-      to (inr (is, l, w)) = (omega arith, omega arith, omega arith, rw is w)
-
-      from : Here (suc n) → Here n ⊎ Last
-      from (a, b, c, w) =
-          ⊎_elim
-          (λ less. inl (a, less, c, w))
-          (λ more. let is : p.1 ≡ f + n = omega arith in inr (is, omega arith, rw (← is) w))
-          (cases_lt p.1 (f + n))
+  in_listed f zero p = grind arith
+  in_listed f (suc n) (s, e) = grind (arith, in_append (s, e) (listed r t f n) (ending r t (f + n)), in_listed f n (s, e), in_starting r t (f + n) (suc (f + n)) (s, e))
 
   listed_sorted : (f n : ℕ) → Sorted Precedes (listed r t f n)
   listed_sorted f zero = tt
   listed_sorted f (suc n) =
       sorted_append Precedes (listed r t f n) (ending r t (f + n)) (listed_sorted f n) (starting_sorted r t (f + n) (suc (f + n)))
-      (λ p q i j. let (_, a, _, _) = (in_listed f n p).0 i in let (b, _, _) = (in_starting r t (f + n) (suc (f + n)) q).0 j in inl (omega arith))
+      (λ p q i j. grind (arith, (in_listed f n p).0 i, (in_starting r t (f + n) (suc (f + n)) q).0 j))
 
 -- Exactly, by what stands in the list
 module _ (r : Regex) (t : List ℕ) (from next : ℕ) where
