@@ -7,7 +7,7 @@ use Rattle.std.proofs.lemmas.Bool.Decides.{same_from_decides, not_from_Decides}
 use Rattle.regular.specs.Language.{Regex, Word, Tail, Inhabited}
 use Rattle.regular.specs.Positions.{accepted, tailed}
 use Rattle.regular.specs.Matches.{IsMatch, between, starting, ending, listed, reach, Precedes, Exactly, ListsAreExact}
-use Rattle.regular.proofs.Iff.{◌⨾◌, sum}
+use Rattle.regular.proofs.Iff.{◌⨾◌}
 use Rattle.regular.proofs.Reading.{words_accepted}
 use Rattle.regular.proofs.Tails.{tails_tailed, tails_of_tails}
 use Rattle.regular.proofs.Places.{between_split}
