@@ -3,7 +3,7 @@ use Rattle.std.proofs.Common.{◌≡◌, ℕ, zero, suc, ◌+◌, ◌-◌, ◌<�
 use mathlib.Core.Logic.Iff.{symm as flip}
 use Rattle.std.proofs.Math.Nat.{add-sub_of_le}
 use Rattle.std.proofs.lemmas.Bool.{cond_both, false_from_ne_true}
-use Rattle.std.proofs.lemmas.Bool.Decides.{same_from_decides, not_from_Decides}
+use Rattle.std.proofs.lemmas.Bool.Decides.{same_from_decides}
 use Rattle.regular.specs.Language.{Regex, Word, Tail, Inhabited}
 use Rattle.regular.specs.Positions.{accepted, tailed}
 use Rattle.regular.specs.Matches.{IsMatch, between, starting, ending, listed, reach, Precedes, Exactly, ListsAreExact}
@@ -24,21 +24,13 @@ precedes_one_way : (p q : ℕ × ℕ) → Precedes p q → Precedes q p → ⊥
 precedes_one_way p q a b = grind arith
 
 module _ (r : Regex) (t : List ℕ) (e : ℕ) where
-  -- one start more, which either begins a word or does not
-  by_start : (n : ℕ) (P : List (ℕ × ℕ) → Type 0) → (Word r (between t n e) → P ((n, e) ∷ starting r t e n)) → ((Word r (between t n e) → ⊥) → P (starting r t e n)) → P (starting r t e (suc n))
-  by_start n P with_it without =
-      let w : List ℕ = between t n e in
-      cond_both (accepted r w) ((n, e) ∷ starting r t e n) (starting r t e n) P
-      (λ h. with_it ((words_accepted r w).0 h))
-      (λ h. without (not_from_Decides (accepted r w) (words_accepted r w) h))
-
   pub in_starting : (n : ℕ) (p : ℕ × ℕ) → In p (starting r t e n) ↔ ((p.1 ≡ e) × (p.0 < n) × Word r (between t p.0 e))
   in_starting zero (s, f) = (absurd, λ (_, l, _). absurd (omega arith))
-  in_starting (suc n) (s, f) = by_start n (λ l. In (s, f) l ↔ ((f ≡ e) × (s < suc n) × Word r (between t s e))) (λ w. grind (arith, in_starting n (s, f))) (λ no_word. grind (arith, in_starting n (s, f)))
+  in_starting (suc n) (s, f) = grind (arith, in_starting n (s, f), words_accepted r (between t n e))
 
   pub starting_none : (n : ℕ) → ((m : ℕ) → m < n → Word r (between t m e) → ⊥) → starting r t e n ≡ []
   starting_none zero h = refl
-  starting_none (suc n) h = by_start n (λ l. l ≡ []) (λ w. absurd (h n (omega arith) w)) (λ _. starting_none n (λ m l. h m (omega arith)))
+  starting_none (suc n) h = grind (arith, starting_none n (λ m l. h m (omega arith)), h n, words_accepted r (between t n e))
 
   -- a walk stops where there is no tail
   pub starting_dead : (n : ℕ) → 0 < n → n ≤ e → (Tail r (between t (n - 1) e) → ⊥) → starting r t e n ≡ []
@@ -56,7 +48,9 @@ module _ (r : Regex) (t : List ℕ) (e : ℕ) where
   pub starting_sorted : (n : ℕ) → Sorted Precedes (starting r t e n)
   starting_sorted zero = tt
   starting_sorted (suc n) =
-      by_start n (Sorted Precedes) (λ _. (λ p i. grind (arith, (in_starting n p).0 i), starting_sorted n)) (λ _. starting_sorted n)
+      cond_both (accepted r (between t n e)) ((n, e) ∷ starting r t e n) (starting r t e n) (Sorted Precedes)
+      (λ _. (λ p i. grind (arith, (in_starting n p).0 i), starting_sorted n))
+      (λ _. starting_sorted n)
 
   starting_few : (n : ℕ) → length (starting r t e n) ≤ n
   starting_few zero = omega arith

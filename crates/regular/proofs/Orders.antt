@@ -1,5 +1,5 @@
 -- Lists in an order: what stands in them, and that this determines the list. Assumes nothing.
-use Rattle.std.proofs.Common.{◌≡◌, ℕ, zero, suc, ◌<◌, ◌⊎◌, ◌↔◌, List, [], ◌∷◌, ◌++◌, length, get_or, sym, refl, subst, inl, inr, ⊎_elim, arith}
+use Rattle.std.proofs.Common.{◌≡◌, ℕ, zero, suc, ◌<◌, ◌⊎◌, ◌↔◌, List, [], ◌∷◌, ◌++◌, length, get_or, refl, subst, inl, inr, ⊎_elim, arith}
 use mathlib.Core.Logic.Iff.{rfl as same}
 use mathlib.Core.Logic.Iff.{symm as flip}
 use Rattle.regular.proofs.Iff.{◌⨾◌, sum, sum_assoc}
@@ -52,15 +52,11 @@ module _ {A : Type 0} (R : A → A → Type 0) where
   )
 
   module _ (one_way : (x y : A) → R x y → R y x → ⊥) where
-    -- what follows x in one list follows it in the other
-    follows : (x y : A) (xs ys : List A) → Sorted (x ∷ xs) → x ≡ y → ((z : A) → In z (x ∷ xs) → In z (y ∷ ys)) → (z : A) → In z xs → In z ys
-    follows x y xs ys s e f z i = grind (arith, one_way z z, s.0 z i, f z (inr i))
-
     pub same_sorted : (xs ys : List A) → Sorted xs → Sorted ys → ((z : A) → In z xs ↔ In z ys) → xs ≡ ys
     same_sorted [] [] a b f = refl
     same_sorted [] (y ∷ ys) a b f = absurd ((f y).1 (inl refl))
     same_sorted (x ∷ xs) [] a b f = absurd ((f x).0 (inl refl))
     same_sorted (x ∷ xs) (y ∷ ys) a b f =
         let heads : x ≡ y = grind (arith, one_way x y, a.0 y, b.0 x, (f y).1 (inl refl), (f x).0 (inl refl)) in
-        let tails : xs ≡ ys = same_sorted xs ys a.1 b.1 (λ z. (follows x y xs ys a heads (λ w. (f w).0) z, follows y x ys xs b (sym heads) (λ w. (f w).1) z)) in
+        let tails : xs ≡ ys = same_sorted xs ys a.1 b.1 (λ z. grind (arith, one_way z z, a.0 z, b.0 z, f z)) in
         cc
