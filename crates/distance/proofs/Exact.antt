@@ -1,8 +1,10 @@
 -- The numbers reckoned from the list of tails are the distances. Assumes nothing.
-use Rattle.std.proofs.Common.{◌≡◌, ℕ, ◌+◌, ◌-◌, ◌<◌, ◌≤◌, min, max, Bool, true, false, cond, ◌&&◌, ◌||◌, eqb, ltb, ◌⊎◌, ◌↔◌, List, [], ◌∷◌, ◌++◌, length, take, replicate, sym, refl, ap, ◌∙◌, subst, ap₂, inl, inr, ⊎_elim, append_assoc, append-nil, arith, length-append}
+use Rattle.std.proofs.Common.{◌≡◌, ℕ, ◌+◌, ◌-◌, ◌<◌, ◌≤◌, min, max, Bool, true, false, cond, ◌&&◌, ◌||◌, eqb, ltb, ◌↔◌, List, [], ◌∷◌, ◌++◌, length, take, replicate, sym, refl, ap, ◌∙◌, subst, ap₂, ⊎_elim, append_assoc, append-nil, arith, length-append}
 use mathlib.Core.Logic.Iff.{and as pair}
 use mathlib.Core.Logic.Iff.{rfl as same}
 use lib.ListN.{length-replicate}
+use mathlib.Core.List.{nil≢cons}
+use Rattle.std.proofs.Math.Bool.{or-false, or_assoc}
 use Rattle.std.proofs.lemmas.Bool.{cases_lt, both_ways, false≢true}
 use Rattle.std.proofs.lemmas.Bool.Decides.{Decides-eqb, Decides-ltb, Decides-and, Decides-or}
 use Rattle.std.proofs.lemmas.List.Prefix.{end_rest}
@@ -18,7 +20,7 @@ use Rattle.distance.specs.Distances.{Full, Inside, Past, First, Second, Lesser, 
 use Rattle.distance.specs.Found.{head_of, when, beyond, first_of, opens, second_of, way_of, upto, Onward, tails_upto}
 use Rattle.distance.proofs.Alike.{Bounded, OfKinds, tailed_is, like_same, like_back, like_append, like_length, like_split, like_reached, like_tailed, chosen_append, tailed_end, chosen_tail}
 use Rattle.distance.proofs.Least.{finite_same, least_if_one, least_if_like}
-use Rattle.distance.proofs.Listed.{upto_listed, upto_has, when_is, least_of_is}
+use Rattle.distance.proofs.Listed.{some_member, upto_listed, upto_has, when_is, least_of_is}
 use Rattle.distance.proofs.Onward.{onward, onward_word, way_there}
 use Rattle.distance.proofs.Safe.{end_of_end, last_split, length_last, word_full}
 
@@ -28,7 +30,7 @@ PieceJump r k q n = (w : List ℕ) × Piece r k q w × Lesser r k w n
 
 pub head_of_is : (v w : List ℕ) → head_of v w ≡ true ↔ ((x : List ℕ) × (w ≡ v ++ x))
 head_of_is [] w = (λ _. (w, refl), λ _. refl)
-head_of_is (c ∷ v) [] = (λ e. absurd (false≢true e), λ (x, e). let z : ◌≡◌ {A = ℕ} 0 1 = cc in absurd (omega arith))
+head_of_is (c ∷ v) [] = (λ e. absurd (false≢true e), λ (x, e). absurd (nil≢cons e))
 head_of_is (c ∷ v) (d ∷ w) =
     Decides-and _ _ (Decides-eqb c d) (head_of_is v w)
     ⨾ (λ (e, (x, k)). (x, rw (e, k)), λ (x, e). (sym (head_same e), (x, tail_same e)))
@@ -55,15 +57,9 @@ beyond_is v w n = when_is _ _ n ⨾ pair (proper_is v w) same ⨾ (to, from)
 
 pub opens_is : (k : ℕ) (ws : List (List ℕ)) (v : List ℕ) → opens k ws v ≡ true ↔ ((w : List ℕ) × Member w ws × ((length w ≡ k) × Proper v w))
 opens_is k [] v = (λ e. absurd (false≢true e), λ (w, m, _). absurd m)
-opens_is k (y ∷ ws) v = Decides-or _ _ (Decides-and _ _ (Decides-eqb (length y) k) (proper_is v y)) (opens_is k ws v) ⨾ (to, from)
-  where
-    to : ((length y ≡ k) × Proper v y) ⊎ ((w : List ℕ) × Member w ws × ((length w ≡ k) × Proper v w)) → (w : List ℕ) × Member w (y ∷ ws) × ((length w ≡ k) × Proper v w)
-    to (inl h) = (y, inl refl, h)
-    to (inr (w, m, h)) = (w, inr m, h)
-
-    from : (w : List ℕ) × Member w (y ∷ ws) × ((length w ≡ k) × Proper v w) → ((length y ≡ k) × Proper v y) ⊎ ((w : List ℕ) × Member w ws × ((length w ≡ k) × Proper v w))
-    from (w, inl e, h) = inl (rw (← e) h)
-    from (w, inr m, h) = inr (w, m, h)
+opens_is k (y ∷ ws) v =
+    Decides-or _ _ (Decides-and _ _ (Decides-eqb (length y) k) (proper_is v y)) (opens_is k ws v)
+    ⨾ some_member (λ w. (length w ≡ k) × Proper v w) y ws
 
 module _ (r : Regex) (h : Inhabited r) (codes : ℕ) (B : Bounded r codes) (m k : ℕ) (S : Shortest r m) (le : k ≤ m) where
   abbrev found : List (List ℕ)
@@ -233,15 +229,5 @@ module _ (r : Regex) (h : Inhabited r) (codes : ℕ) (B : Bounded r codes) (m k 
         (x, L)
 
 pub opens_push : (k : ℕ) (ws : List (List ℕ)) (w v : List ℕ) → opens k (ws ++ w ∷ []) v ≡ opens k ws v || (eqb (length w) k && (head_of v w && ltb (length v) (length w)))
-opens_push k [] w v = or_none (eqb (length w) k && (head_of v w && ltb (length v) (length w)))
-  where
-    or_none : (b : Bool) → b || false ≡ b
-    or_none true = refl
-    or_none false = refl
-opens_push k (x ∷ ws) w v =
-    ap (λ b. (eqb (length x) k && (head_of v x && ltb (length v) (length x))) || b) (opens_push k ws w v)
-    ∙ or_assoc (eqb (length x) k && (head_of v x && ltb (length v) (length x))) _ _
-  where
-    or_assoc : (a b c : Bool) → a || (b || c) ≡ (a || b) || c
-    or_assoc true b c = refl
-    or_assoc false b c = refl
+opens_push k [] w v = or-false _
+opens_push k (x ∷ ws) w v = rw (opens_push k ws w v, or_assoc)

@@ -1,6 +1,6 @@
 -- The least and the greatest number of a property. Assumes nothing.
 use Rattle.std.proofs.Common.{◌≡◌, ℕ, zero, suc, ◌<◌, ◌≤◌, min, Bool, true, ◌⊎◌, ◌↔◌, refl, ap, inl, inr, ⊎_elim, arith}
-use Rattle.std.proofs.lemmas.Bool.{cases_lt, cases_Bool, both_ways}
+use Rattle.std.proofs.lemmas.Bool.{cases_Bool}
 use Rattle.distance.specs.Extremes.{Least, Greatest, Distance, infinite, finite, lesser, LeastIfAny}
 
 pub finite_same : {m n : ℕ} → finite m ≡ finite n → m ≡ n
@@ -29,16 +29,11 @@ module _ (P : ℕ → Type 0) where
     where
       below : (m : ℕ) (n : ℕ) → n < m → P n → ⊥
       below zero n h p = omega arith
-      below (suc m) n h p = no_one (finite n) (p, λ i q. ⊎_elim (λ l. absurd (below m i (omega arith) q)) (λ l. l) (cases_lt i n))
+      below (suc m) n h p = no_one (finite n) (p, λ i q. grind (arith, below m i))
 
 module _ (P Q : ℕ → Type 0) where
   pub lesser_is : (d e : Distance) (n : ℕ) → LeastIfAny P d → LeastIfAny Q e → lesser d e ≡ finite n → P n ⊎ Q n
-  lesser_is infinite infinite n h k is = absurd (finite_not is)
-  lesser_is infinite (finite j) n h (q, _) is = inr (rw (← finite_same is) q)
-  lesser_is (finite i) infinite n (p, _) k is = inl (rw (← finite_same is) p)
-  lesser_is (finite i) (finite j) n (p, _) (q, _) is =
-      let e = finite_same is in
-      ⊎_elim (λ l. let x : i ≡ n = omega arith in inl (rw (← x) p)) (λ l. let x : j ≡ n = omega arith in inr (rw (← x) q)) (cases_lt i j)
+  lesser_is d e n h k is = grind arith
 
   pub lesser_least : (d e : Distance) (n : ℕ) → LeastIfAny P d → LeastIfAny Q e → P n ⊎ Q n → (j : ℕ) × (lesser d e ≡ finite j) × (j ≤ n)
   lesser_least infinite infinite n h k s = absurd (⊎_elim (h n) (k n) s)
@@ -48,12 +43,9 @@ module _ (P Q : ℕ → Type 0) where
 
   pub lesser_both : (d e : Distance) → LeastIfAny P d → LeastIfAny Q e → LeastIfAny (λ n. P n ⊎ Q n) (lesser d e)
   lesser_both infinite infinite h k = λ n. ⊎_elim (h n) (k n)
-  lesser_both infinite (finite j) h (q, g) = (inr q, λ i. ⊎_elim (λ p. absurd (h i p)) (g i))
-  lesser_both (finite i) infinite (p, f) k = (inl p, λ j. ⊎_elim (f j) (λ q. absurd (k j q)))
-  lesser_both (finite i) (finite j) (p, f) (q, g) = (
-    ⊎_elim (λ l. let x : min i j ≡ i = omega arith in inl (rw x p)) (λ l. let x : min i j ≡ j = omega arith in inr (rw x q)) (cases_lt i j),
-    λ n. ⊎_elim (λ s. omega (arith, f n s)) (λ s. omega (arith, g n s)),
-  )
+  lesser_both infinite (finite j) h k = grind arith
+  lesser_both (finite i) infinite h k = grind arith
+  lesser_both (finite i) (finite j) h k = grind arith
 
   pub least_if_like : ((n : ℕ) → P n ↔ Q n) → (d : Distance) → LeastIfAny P d → LeastIfAny Q d
   least_if_like f infinite h = λ n q. h n ((f n).1 q)
@@ -69,10 +61,7 @@ least_below f zero = inr (λ i l _. omega arith)
 least_below f (suc m) =
     ⊎_elim
     inl
-    (λ none. elim (cases_Bool (f m)) [
-      | inl e ↦ inl (m, (e, λ i k. ⊎_elim (λ l. absurd (none i l k)) (λ l. l) (cases_lt i m)))
-      | inr e ↦ inr (λ i l k. ⊎_elim (λ less. none i less k) (λ more. let is : i ≡ m = omega arith in both_ways (f m) e (rw (← is) k)) (cases_lt i m))
-    ])
+    (λ none. elim (cases_Bool (f m)) [ inl e ↦ inl (m, (e, λ i k. grind (arith, none i))) | inr e ↦ inr (λ i l k. grind (arith, none i)) ])
     (least_below f m)
 
 -- a test that some number passes has a least number
