@@ -45,15 +45,13 @@ proper_is v w =
     ⨾ (λ ((x, e), l). (x, omega (arith, ap length e, length-append v x), e), λ (x, l, e). ((x, e), omega (arith, ap length e, length-append v x)))
 
 pub beyond_is : (v w : List ℕ) (n : ℕ) → beyond v w ≡ finite n ↔ ((1 ≤ n) × ((x : List ℕ) × (length x ≡ n) × (w ≡ v ++ x)))
-beyond_is v w n = when_is _ _ n ⨾ pair (proper_is v w) same ⨾ (to, from)
-  where
-    to : Proper v w × (finite (length w - length v) ≡ finite n) → (1 ≤ n) × ((x : List ℕ) × (length x ≡ n) × (w ≡ v ++ x))
-    to ((x, l, e), is) =
-        let long : length x ≡ n = omega (arith, finite_same is, ap length e, length-append v x) in
-        (omega arith, (x, long, e))
-
-    from : (1 ≤ n) × ((x : List ℕ) × (length x ≡ n) × (w ≡ v ++ x)) → Proper v w × (finite (length w - length v) ≡ finite n)
-    from (l, (x, long, e)) = ((x, omega arith, e), ap finite (omega (arith, ap length e, length-append v x)))
+beyond_is v w n =
+    when_is _ _ n
+    ⨾ pair (proper_is v w) same
+    ⨾ (
+      λ ((x, l, e), is). let long : length x ≡ n = omega (arith, finite_same is, ap length e, length-append v x) in (omega arith, (x, long, e)),
+      λ (l, (x, long, e)). ((x, omega arith, e), ap finite (omega (arith, ap length e, length-append v x))),
+    )
 
 pub opens_is : (k : ℕ) (ws : List (List ℕ)) (v : List ℕ) → opens k ws v ≡ true ↔ ((w : List ℕ) × Member w ws × ((length w ≡ k) × Proper v w))
 opens_is k [] v = (λ e. absurd (false≢true e), λ (w, m, _). absurd m)
@@ -91,18 +89,17 @@ module _ (r : Regex) (h : Inhabited r) (codes : ℕ) (B : Bounded r codes) (m k 
 
   pub first_exact : (v : List ℕ) → OfKinds r codes v → First r k v (first_of found v)
   first_exact v g =
-      least_if_like (λ n. (w : List ℕ) × Member w found × (beyond v w ≡ finite n)) (Inside r k v) (λ n. (to n, from n)) (first_of found v) (least_of_is (beyond v) found)
-    where
-      to : (n : ℕ) → (w : List ℕ) × Member w found × (beyond v w ≡ finite n) → Inside r k v n
-      to n (w, m, e) =
-          let (l, (x, long, is)) = (beyond_is v w n).0 e in
-          let (y, F) = extend w (listed_tail w m) (upto_listed r codes k w m).0 in
-          (l, (x, y, long, subst (λ (z : List ℕ). Full r k (y ++ z)) is F))
-
-      from : (n : ℕ) → Inside r k v n → (w : List ℕ) × Member w found × (beyond v w ≡ finite n)
-      from n (l, (x, y, long, F)) =
-          let (z, len, m) = listed_like v x g (tails_of_tails.suffix r y (v ++ x) F.tail) (omega (arith, F.long, length-append y (v ++ x))) in
-          (v ++ z, m, (beyond_is v (v ++ z) n).1 (l, (z, omega arith, refl)))
+      least_if_like (λ n. (w : List ℕ) × Member w found × (beyond v w ≡ finite n)) (Inside r k v)
+      (λ n. (
+        λ (w, m, e).
+            let (l, (x, long, is)) = (beyond_is v w n).0 e in
+            let (y, F) = extend w (listed_tail w m) (upto_listed r codes k w m).0 in
+            (l, (x, y, long, subst (λ (z : List ℕ). Full r k (y ++ z)) is F)),
+        λ (l, (x, y, long, F)).
+            let (z, len, m) = listed_like v x g (tails_of_tails.suffix r y (v ++ x) F.tail) (omega (arith, F.long, length-append y (v ++ x))) in
+            (v ++ z, m, (beyond_is v (v ++ z) n).1 (l, (z, omega arith, refl))),
+      ))
+      (first_of found v) (least_of_is (beyond v) found)
 
   -- far enough on, any full tail stands at the end
   past_any : (v : List ℕ) (n : ℕ) → 1 ≤ n → k ≤ n → Past r k v n
@@ -211,15 +208,10 @@ module _ (r : Regex) (h : Inhabited r) (codes : ℕ) (B : Bounded r codes) (m k 
 
     -- t of q is found on the list
     pub pieces_listed : (n : ℕ) → ((w : List ℕ) × Listed w × (value w ≡ finite n)) ↔ PieceJump r k q n
-    pieces_listed n = (to, from)
-      where
-        to : (w : List ℕ) × Listed w × (value w ≡ finite n) → PieceJump r k q n
-        to (w, L, e) =
-            let c = (upto_listed r codes k w L.0).1.0 in
-            (w, listed_piece w L, (first_of found w, finite (second_of k found w), first_exact w c, second_exact w c, e))
-
-        from : PieceJump r k q n → (w : List ℕ) × Listed w × (value w ≡ finite n)
-        from (w, P, V) = let (x, like, c, L) = piece_listed w P in (x, L, lesser_like w x n like c V)
+    pieces_listed n = (
+      λ (w, L, e). let c = (upto_listed r codes k w L.0).1.0 in (w, listed_piece w L, (first_of found w, finite (second_of k found w), first_exact w c, second_exact w c, e)),
+      λ (w, P, V). let (x, like, c, L) = piece_listed w P in (x, L, lesser_like w x n like c V),
+    )
 
     -- where some word leads to q, some piece is listed
     pub listed_there : (v : List ℕ) → Leads r v q → (w : List ℕ) × Listed w
