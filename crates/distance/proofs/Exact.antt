@@ -196,7 +196,7 @@ module _ (r : Regex) (h : Inhabited r) (codes : ℕ) (B : Bounded r codes) (m k 
           x,
           like,
           c,
-          (upto_has r codes k x (omega arith) c (sym (like_tailed r w x like) ∙ t), (sym len ∙ long ∙ way_exact a way, (p, reached_in r w p s, (sym (like_reached r w x like p) ∙ s, (length u, path))))),
+          (upto_has r codes k x (omega arith) c (cc (like_tailed r w x like)), (omega (arith, way_exact a way), (p, reached_in r w p s, (cc (like_reached r w x like p), (length u, path))))),
         )
 
     lesser_like : (w x : List ℕ) (n : ℕ) → SameKinds r w x → OfKinds r codes x → Lesser r k w n → value x ≡ finite n
