@@ -9,7 +9,7 @@ use Rattle.std.proofs.lemmas.Bool.{cases_lt, both_ways, false≢true}
 use Rattle.std.proofs.lemmas.Bool.Decides.{Decides-eqb, Decides-ltb, Decides-and, Decides-or}
 use Rattle.std.proofs.lemmas.List.Prefix.{end_rest}
 use Rattle.regular.specs.Language.{Regex, Tail, Shortest, Inhabited}
-use Rattle.regular.specs.Positions.{size, reached, tailed}
+use Rattle.regular.specs.Positions.{size, reached}
 use Rattle.regular.proofs.Iff.{◌⨾◌}
 use Rattle.regular.proofs.Words.{head_same, tail_same}
 use Rattle.regular.proofs.Reading.{reached_in}
@@ -20,7 +20,7 @@ use Rattle.distance.specs.Distances.{Full, Inside, Past, First, Second, Lesser, 
 use Rattle.distance.specs.Found.{head_of, when, beyond, first_of, opens, second_of, way_of, upto, Onward, tails_upto}
 use Rattle.distance.proofs.Alike.{Bounded, OfKinds, tailed_is, like_same, like_back, like_append, like_length, like_split, like_reached, like_tailed, chosen_append, tailed_end, chosen_tail}
 use Rattle.distance.proofs.Least.{finite_same, least_if_one, least_if_like}
-use Rattle.distance.proofs.Listed.{some_member, upto_listed, upto_has, when_is, least_of_is}
+use Rattle.distance.proofs.Listed.{some_member, upto_listed, upto_has, listed_as, when_is, least_of_is}
 use Rattle.distance.proofs.Onward.{onward, onward_word, way_there}
 use Rattle.distance.proofs.Safe.{end_of_end, last_split, length_last, word_full}
 
@@ -153,10 +153,8 @@ module _ (r : Regex) (h : Inhabited r) (codes : ℕ) (B : Bounded r codes) (m k 
     -- a word that leads to q and is no longer than a full tail is like a listed one
     way_listed : (v : List ℕ) → Leads r v q → length v ≤ k → Shorter (length v)
     way_listed v s l =
-        let t = (tailed_is r v).1 (q, reached_in r v q s, s) in
-        let (w, like, c) = chosen_tail r codes B v [] (rw append-nil t) in
-        let long = like_length r v w like in
-        (w, upto_has r codes k w (omega arith) c (sym (like_tailed r v w like) ∙ t), (when_is _ _ (length v)).1 (sym (like_reached r v w like q) ∙ s, ap finite (sym long)))
+        let (w, like, _, m) = listed_as r codes B k v ((tailed_is r v).1 (q, reached_in r v q s, s)) l in
+        (w, m, (when_is _ _ (length v)).1 (cc (like_reached r v w like q), ap finite (sym (like_length r v w like))))
 
     way_exact : (a : ℕ) → Way r q a → min k a ≡ short
     way_exact a ((v, s, long), least) = go (way_of r found q) (least_of_is (λ w. when (reached r w q) (finite (length w))) found)
@@ -190,14 +188,9 @@ module _ (r : Regex) (h : Inhabited r) (codes : ℕ) (B : Bounded r codes) (m k 
         let u : List ℕ = take (length v - min k a) v in
         let cut : v ≡ u ++ w = last_split (min k a) v ∙ ap (λ z. u ++ z) (sym e) in
         let (p, s, path) = onward r w u q (subst (λ (z : List ℕ). reached r z q ≡ true) cut leads) in
-        let t : tailed r w ≡ true = (tailed_is r w).1 (p, reached_in r w p s, s) in
-        let (x, like, c) = chosen_tail r codes B w [] (rw append-nil t) in
-        let len = like_length r w x like in (
-          x,
-          like,
-          c,
-          (upto_has r codes k x (omega arith) c (cc (like_tailed r w x like)), (omega (arith, way_exact a way), (p, reached_in r w p s, (cc (like_reached r w x like p), (length u, path))))),
-        )
+        let (x, like, c, m) = listed_as r codes B k w ((tailed_is r w).1 (p, reached_in r w p s, s)) (omega arith) in
+        let len = like_length r w x like in
+        (x, like, c, (m, (omega (arith, way_exact a way), (p, reached_in r w p s, (cc (like_reached r w x like p), (length u, path))))))
 
     lesser_like : (w x : List ℕ) (n : ℕ) → SameKinds r w x → OfKinds r codes x → Lesser r k w n → value x ≡ finite n
     lesser_like w x n like c (d, e, D, E, is) =

@@ -134,14 +134,17 @@ module _ (r : Regex) (codes : ℕ) where
     apart vs (λ w m. f w (inr m)) d,
   )
 
+  -- a tail no longer than n is like a listed one
+  pub listed_as : Bounded r codes → (n : ℕ) (v : List ℕ) → tailed r v ≡ true → length v ≤ n → (w : List ℕ) × SameKinds r v w × OfKinds r codes w × Member w (tails_upto r codes n)
+  listed_as B n v t l =
+      let (w, like, c) = chosen_tail r codes B v [] (rw append-nil t) in
+      (w, like, c, upto_has r codes n w (omega (arith, like_length r v w like)) c (cc (like_tailed r v w like)))
+
   -- the list has each tail, as a word of kinds, once
   pub tails_listed_once : Inhabited r → Bounded r codes → (n : ℕ) → TailsOfKinds r n (tails_upto r codes n)
   tails_listed_once h B n = record {
     tails = λ v m. let (l, (_, t)) = upto_listed r codes n v m in ((tails_tailed r h v).0 t, l);
-    every = λ v t l.
-        let is = (tails_tailed r h v).1 t in
-        let (w, like, c) = chosen_tail r codes B v [] (rw append-nil is) in
-        (w, upto_has r codes n w (omega (arith, like_length r v w like)) c (sym (like_tailed r v w like) ∙ is), like);
+    every = λ v t l. let (w, like, _, m) = listed_as B n v ((tails_tailed r h v).1 t) l in (w, m, like);
     once = apart (tails_upto r codes n) (λ v m. (upto_listed r codes n v m).1.0) (upto_once r codes n);
   }
 
