@@ -117,10 +117,6 @@ module _ (r : Regex) where
     chosen_append [] w h k = k
     chosen_append (c ∷ v) w (f, h) k = (f, chosen_append v w h k)
 
-    pub chosen_end : (v w : List ℕ) → OfKinds r codes (v ++ w) → OfKinds r codes w
-    chosen_end [] w h = h
-    chosen_end (c ∷ v) w (_, h) = chosen_end v w h
-
   -- a tail that is not empty: its first code is held, and the rest is a tail
   pub tailed_cons : (c : ℕ) (v : List ℕ) → tailed r (c ∷ v) ≡ true → ((q : ℕ) × (holds r 0 q c ≡ true)) × (tailed r v ≡ true)
   tailed_cons c v h =

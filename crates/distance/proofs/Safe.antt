@@ -39,10 +39,9 @@ module _ (r : Regex) (k : ℕ) where
 -- where nothing goes on from an end of v by less than h, inside a full tail or past one, no match ends less than h behind v
 module _ (r : Regex) (m k : ℕ) (S : Shortest r m) (le : k ≤ m) where
   pub far : (h : ℕ) (v t w : List ℕ) → v ≡ t ++ w → ((n : ℕ) → n < h → Inside r k w n ⊎ Past r k w n → ⊥) → NothingWithin r v h
-  far h v t w is none u x l lt (y, f, e, word) = none (length x) lt (near_end r k (u ++ t) w x (y ++ take (length f - k) f) (last k f) (word_full r k f word (omega (arith, S.least f word))) text l)
-    where
-      text : (u ++ t) ++ (w ++ x) ≡ (y ++ take (length f - k) f) ++ last k f
-      text = simp append_assoc (ap (λ z. u ++ z) (sym (append_assoc t w x) ∙ ap (λ z. z ++ x) (sym is)) ∙ e ∙ ap (λ z. y ++ z) (last_split k f))
+  far h v t w is none u x l lt (y, f, e, word) =
+      let text : (u ++ t) ++ (w ++ x) ≡ (y ++ take (length f - k) f) ++ last k f = simp append_assoc (simp append_assoc at (rw (is, last_split k f) at e)) in
+      none (length x) lt (near_end r k (u ++ t) w x (y ++ take (length f - k) f) (last k f) (word_full r k f word (omega (arith, S.least f word))) text l)
 
   positive : (w : List ℕ) (h : ℕ) → Lesser r k w h → 1 ≤ h
   positive w h (d, e, D, E, is) = ⊎_elim (λ i. i.0) (λ p. p.0) (lesser_is (Inside r k w) (Past r k w) d e h D E is)

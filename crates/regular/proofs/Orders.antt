@@ -1,8 +1,5 @@
 -- Lists in an order: what stands in them, and that this determines the list. Assumes nothing.
 use Rattle.std.proofs.Common.{◌≡◌, ℕ, zero, suc, ◌<◌, ◌⊎◌, ◌↔◌, List, [], ◌∷◌, ◌++◌, length, get_or, refl, subst, inl, inr, ⊎_elim, arith}
-use mathlib.Core.Logic.Iff.{rfl as same}
-use mathlib.Core.Logic.Iff.{symm as flip}
-use Rattle.regular.proofs.Iff.{◌⨾◌, sum, sum_assoc}
 
 -- x stands in the list
 abbrev pub In : {A : Type 0} → A → List A → Type 0
@@ -12,7 +9,7 @@ In x (y ∷ ys) = (y ≡ x) ⊎ In x ys
 module _ {A : Type 0} where
   pub in_append : (x : A) (xs ys : List A) → In x (xs ++ ys) ↔ (In x xs ⊎ In x ys)
   in_append x [] ys = (inr, ⊎_elim (λ h. absurd h) (λ h. h))
-  in_append x (y ∷ xs) ys = sum same (in_append x xs ys) ⨾ flip sum_assoc
+  in_append x (y ∷ xs) ys = grind (arith, in_append x xs ys)
 
   pub at_in : (xs : List A) (i : ℕ) (d : A) → i < length xs → In (get_or xs i d) xs
   at_in [] i d h = absurd (omega arith)

@@ -10,8 +10,7 @@ IsPosition r i q = (i < q) × (q ≤ i + size r)
 
 module _ (a b : Regex) {i q : ℕ} where
   pub parts_in : {A B : Type 0} → (A → IsPosition a i q) → (B → IsPosition b (i + size a) q) → A ⊎ B → IsPosition (join a b) i q
-  parts_in f g (inl x) = let h = f x in omega arith
-  parts_in f g (inr y) = let h = g y in omega arith
+  parts_in f g s = grind arith
 
   -- .. and a position of the two is one of either
   pub part : IsPosition (join a b) i q → IsPosition a i q ⊎ IsPosition b (i + size a) q
@@ -19,13 +18,7 @@ module _ (a b : Regex) {i q : ℕ} where
 
   -- two facts of a position are of the same part
   pub same_part : {A B C D : Type 0} → (A → IsPosition a i q) → (B → IsPosition b (i + size a) q) → (C → IsPosition a i q) → (D → IsPosition b (i + size a) q) → ((A ⊎ B) × (C ⊎ D)) ↔ ((A × C) ⊎ (B × D))
-  same_part {A} {B} {C} {D} f g h k = (go, ⊎_elim (λ (x, y). (inl x, inl y)) (λ (x, y). (inr x, inr y)))
-    where
-      go : (A ⊎ B) × (C ⊎ D) → (A × C) ⊎ (B × D)
-      go (inl x, inl y) = inl (x, y)
-      go (inl x, inr y) = let l = f x in let r = k y in absurd (omega arith)
-      go (inr x, inl y) = let l = g x in let r = h y in absurd (omega arith)
-      go (inr x, inr y) = inr (x, y)
+  same_part f g h k = (λ s. grind arith, ⊎_elim (λ (x, y). (inl x, inl y)) (λ (x, y). (inr x, inr y)))
 
 record Inside (r : Regex) (i : ℕ) : Type 0 where
   hold : (q c : ℕ) → holds r i q c ≡ true → IsPosition r i q
