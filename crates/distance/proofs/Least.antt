@@ -1,5 +1,5 @@
 -- The least and the greatest number of a property. Assumes nothing.
-use Rattle.std.proofs.Common.{◌≡◌, ℕ, zero, suc, ◌<◌, ◌≤◌, min, Bool, true, ◌⊎◌, ◌↔◌, refl, ap, inl, inr, ⊎_elim, arith}
+use Rattle.std.proofs.Common.{◌≡◌, ℕ, zero, suc, ◌<◌, ◌≤◌, min, Bool, true, ◌⊎◌, ◌↔◌, refl, inl, inr, ⊎_elim, arith}
 use Rattle.std.proofs.lemmas.Bool.{cases_Bool}
 use Rattle.distance.specs.Extremes.{Least, Greatest, Distance, infinite, finite, lesser, LeastIfAny}
 
@@ -18,10 +18,7 @@ module _ {P : ℕ → Type 0} where
 
 module _ (P : ℕ → Type 0) where
   pub least_if_one : (d e : Distance) → LeastIfAny P d → LeastIfAny P e → d ≡ e
-  least_if_one infinite infinite h k = refl
-  least_if_one infinite (finite n) h (p, _) = absurd (h n p)
-  least_if_one (finite m) infinite (p, _) k = absurd (k m p)
-  least_if_one (finite m) (finite n) h k = ap finite (least_one m n h k)
+  least_if_one d e h k = grind (arith, least_one)
 
   -- there is a distance, as far as a proof of ⊥ asks
   pub least_if_any : ((d : Distance) → LeastIfAny P d → ⊥) → ⊥
@@ -48,12 +45,10 @@ module _ (P Q : ℕ → Type 0) where
   lesser_both (finite i) (finite j) h k = grind arith
 
   pub least_if_like : ((n : ℕ) → P n ↔ Q n) → (d : Distance) → LeastIfAny P d → LeastIfAny Q d
-  least_if_like f infinite h = λ n q. h n ((f n).1 q)
-  least_if_like f (finite i) (p, g) = ((f i).0 p, λ j q. g j ((f j).1 q))
+  least_if_like f d h = grind arith
 
 pub self_least : (d : Distance) → LeastIfAny (λ n. d ≡ finite n) d
-self_least infinite = λ n e. finite_not e
-self_least (finite i) = (refl, λ j e. omega (arith, finite_same e))
+self_least d = grind arith
 
 -- of the numbers below m, one is the least that passes a test, or none passes
 pub least_below : (f : ℕ → Bool) (m : ℕ) → ((a : ℕ) × Least (λ i. f i ≡ true) a) ⊎ ((i : ℕ) → i < m → f i ≡ true → ⊥)

@@ -1,8 +1,7 @@
 -- The lists of tails have each tail of kinds, once. Assumes nothing.
-use Rattle.std.proofs.Common.{◌≡◌, ℕ, zero, suc, ◌<◌, ◌≤◌, Bool, true, false, cond, ◌⊎◌, ◌↔◌, List, [], ◌∷◌, ◌++◌, length, sym, refl, ap, ◌∙◌, subst, ap₂, inl, inr, ⊎_elim, append-nil, arith}
+use Rattle.std.proofs.Common.{◌≡◌, ℕ, zero, suc, ◌<◌, ◌≤◌, Bool, true, cond, ◌⊎◌, ◌↔◌, List, [], ◌∷◌, ◌++◌, length, sym, refl, ap, ◌∙◌, subst, ap₂, inl, inr, ⊎_elim, append-nil, arith}
 use Rattle.std.specs.List.{flat_map}
 use mathlib.Core.Logic.Iff.{rfl as same}
-use Rattle.std.proofs.lemmas.Bool.{false≢true}
 use Rattle.regular.specs.Language.{Regex, Inhabited}
 use Rattle.regular.specs.Positions.{tailed}
 use Rattle.regular.proofs.Iff.{◌⨾◌, sum}
@@ -31,8 +30,7 @@ mem_joined f w [] = (absurd, λ (x, m, _). absurd m)
 mem_joined f w (x ∷ xs) = mem_append w (f x) (flat_map f xs) ⨾ sum same (mem_joined f w xs) ⨾ some_member (λ y. Member w (f y)) x xs
 
 mem_cond : {A : Type 0} (b : Bool) (w x : A) → Member w (cond b (x ∷ []) []) ↔ ((b ≡ true) × (w ≡ x))
-mem_cond true w x = (⊎_elim (λ e. (refl, e)) absurd, λ (_, e). inl e)
-mem_cond false w x = (absurd, λ (e, _). absurd (false≢true e))
+mem_cond b w x = grind arith
 
 module _ (r : Regex) where
   pub tailed_nil : tailed r [] ≡ true
@@ -49,8 +47,7 @@ module _ (r : Regex) where
         ⨾ (λ (c, m, n). (c, (mem_kinds codes c).0 m, (mem_cond (tailed r (c ∷ v)) w (c ∷ v)).0 n), λ (c, m, n). (c, (mem_kinds codes c).1 m, (mem_cond (tailed r (c ∷ v)) w (c ∷ v)).1 n))
 
     tails_listed : (n : ℕ) (v : List ℕ) → Member v (tails r codes n) → (length v ≡ n) × (OfKinds r codes v × (tailed r v ≡ true))
-    tails_listed zero v (inl e) = rw e (refl, (tt, tailed_nil))
-    tails_listed zero v (inr m) = absurd m
+    tails_listed zero v m = grind (arith, tailed_nil)
     tails_listed (suc n) v m =
         let (x, k, a) = (mem_joined (fronted r codes) v (tails r codes n)).0 m in
         let (c, (l, f), (t, e)) = (mem_fronted x v).0 a in
@@ -89,8 +86,7 @@ distinct_joined f (x ∷ xs) (n, d) e g =
     (λ w m k. let (y, l, o) = (mem_joined f w xs).0 k in n (subst (λ z. Member z xs) (sym (g x y w m o)) l))
 
 distinct_cond : {A : Type 0} (b : Bool) (x : A) → Distinct (cond b (x ∷ []) [])
-distinct_cond true x = (λ m. m, tt)
-distinct_cond false x = tt
+distinct_cond b x = grind arith
 
 module _ (r : Regex) (codes : ℕ) where
   kinds_once : (n : ℕ) → Distinct (kinds r n)
@@ -163,8 +159,7 @@ least_of_is f (x ∷ ws) =
     (lesser_both (λ n. f x ≡ finite n) (λ n. (w : List ℕ) × Member w ws × (f w ≡ finite n)) (f x) (least_of f ws) (self_least (f x)) (least_of_is f ws))
 
 pub lesser_none : (d : Distance) → lesser d infinite ≡ d
-lesser_none infinite = refl
-lesser_none (finite n) = refl
+lesser_none d = grind arith
 
 lesser_assoc : (a b c : Distance) → lesser a (lesser b c) ≡ lesser (lesser a b) c
 lesser_assoc a b c = grind arith

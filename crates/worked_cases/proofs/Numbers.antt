@@ -1,8 +1,8 @@
 -- The numbers of positions by computation, for an expression with few tails in which all pieces of a position have one number. Assumes nothing.
-use Rattle.std.proofs.Common.{◌≡◌, ℕ, zero, suc, ◌+◌, ◌<◌, ◌≤◌, Bool, true, false, cond, ◌&&◌, eqb, List, [], ◌∷◌, length, get_or, replicate, sym, refl, ap, ◌∙◌, subst, arith}
+use Rattle.std.proofs.Common.{◌≡◌, ℕ, zero, suc, ◌+◌, ◌<◌, ◌≤◌, Bool, true, false, cond, ◌&&◌, eqb, List, [], ◌∷◌, length, get_or, replicate, sym, refl, ◌∙◌, subst, arith}
 use mathlib.Core.Logic.Iff.{rfl as same}
 use lib.ListN.{get_or-replicate}
-use Rattle.std.proofs.lemmas.Bool.{eqb-true, false≢true}
+use Rattle.std.proofs.lemmas.Bool.{eqb-true}
 use Rattle.std.proofs.lemmas.Bool.Decides.{Decides-below_and}
 use Rattle.regular.specs.Language.{Regex, Tail, Shortest, Inhabited}
 use Rattle.regular.specs.Positions.{size, reached}
@@ -29,8 +29,7 @@ is_number t infinite = false
 is_number t (finite n) = eqb n t
 
 number_is : (t : ℕ) (d : Distance) → is_number t d ≡ true → d ≡ finite t
-number_is t infinite e = absurd (false≢true e)
-number_is t (finite n) e = ap finite (eqb-true n t e)
+number_is t d e = grind (arith, eqb-true)
 
 -- the words of length n have the number t
 abbrev even : ℕ → (List ℕ → Distance) → ℕ → List (List ℕ) → Bool
