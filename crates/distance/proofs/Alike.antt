@@ -2,24 +2,18 @@
 use Rattle.std.proofs.Common.{◌≡◌, ℕ, zero, suc, ◌+◌, ◌<◌, ◌≤◌, Bool, true, false, cond, ◌&&◌, ◌⊎◌, ◌↔◌, List, [], ◌∷◌, ◌++◌, length, sym, refl, ap, ◌∙◌, ap₂, inl, inr, ⊎_elim, arith}
 use mathlib.Core.Path.{fun_ext}
 use mathlib.Core.Logic.Iff.{rfl as same}
-use Rattle.std.proofs.lemmas.Bool.{cases_Bool, cases_lt, both_ways, false≢true}
-use Rattle.std.proofs.lemmas.Bool.Decides.{Decides-below_and}
+use Rattle.std.proofs.lemmas.Bool.{cases_Bool}
+use Rattle.std.proofs.lemmas.Bool.Decides.{Decides-below_and, same_from_decides}
 use Rattle.regular.specs.Language.{Regex, one, join, either, star, plus, maybe}
 use Rattle.regular.specs.Positions.{size, holds, some_below, arrow, reached, tailed}
 use Rattle.distance.specs.Kinds.{OneKind, SameKinds}
 use Rattle.distance.specs.Found.{Within, alike_below, alike, first_alike}
 use Rattle.regular.proofs.Iff.{◌⨾◌, and_true, or_true}
-use Rattle.regular.proofs.Ranges.{holds_in}
+use Rattle.regular.proofs.Written.{holds_out}
 use Rattle.regular.proofs.Reading.{some_below_is}
 
-abbrev pub agrees : Bool → Bool → Bool
-agrees x y = cond x y (cond y false true)
-
-pub agree : (x y : Bool) → agrees x y ≡ true ↔ x ≡ y
-agree true true = (λ _. refl, λ _. refl)
-agree true false = (λ e. sym e, λ e. sym e)
-agree false true = (λ e. e, λ e. e)
-agree false false = (λ _. refl, λ _. refl)
+agree : (x y : Bool) → cond x y (cond y false true) ≡ true ↔ x ≡ y
+agree x y = grind arith
 
 -- every code that a position holds is below the bound
 abbrev pub Bounded : Regex → ℕ → Type 0
@@ -40,24 +34,17 @@ OfKinds r codes (c ∷ v) = ((c < codes) × (first_alike r c c ≡ true)) × OfK
 
 -- two tests that are true together are equal
 pub same_tests : (x y : Bool) → (x ≡ true → y ≡ true) → (y ≡ true → x ≡ true) → x ≡ y
-same_tests true true f g = refl
-same_tests true false f g = sym (f refl)
-same_tests false true f g = g refl
-same_tests false false f g = refl
+same_tests x y f g = same_from_decides x y (f, g) same
 
 module _ (r : Regex) where
   pub alike_is : (c d : ℕ) → alike r c d ≡ true ↔ OneKind r c d
   alike_is c d =
       Decides-below_and _ (λ n. holds r 0 (suc n) c ≡ holds r 0 (suc n) d) (alike_below r c d) (λ n. agree (holds r 0 (suc n) c) (holds r 0 (suc n) d)) refl (λ _. refl) (size r)
-      ⨾ (λ f q. same_tests _ _ (λ h. go f q (holds_in r 0 q c h) h) (λ h. back f q (holds_in r 0 q d h) h), λ f n _. f (suc n))
+      ⨾ (go, λ f n _. f (suc n))
     where
-      go : ((n : ℕ) → n < size r → holds r 0 (suc n) c ≡ holds r 0 (suc n) d) → (q : ℕ) → (0 < q) × (q ≤ 0 + size r) → holds r 0 q c ≡ true → holds r 0 q d ≡ true
-      go f zero l h = absurd (omega arith)
-      go f (suc n) l h = sym (f n (omega arith)) ∙ h
-
-      back : ((n : ℕ) → n < size r → holds r 0 (suc n) c ≡ holds r 0 (suc n) d) → (q : ℕ) → (0 < q) × (q ≤ 0 + size r) → holds r 0 q d ≡ true → holds r 0 q c ≡ true
-      back f zero l h = absurd (omega arith)
-      back f (suc n) l h = f n (omega arith) ∙ h
+      go : ((n : ℕ) → n < size r → holds r 0 (suc n) c ≡ holds r 0 (suc n) d) → (q : ℕ) → holds r 0 q c ≡ holds r 0 q d
+      go f zero = grind (arith, holds_out r 0 0 c, holds_out r 0 0 d)
+      go f (suc n) = grind (arith, f n, holds_out r 0 (suc n) c, holds_out r 0 (suc n) d)
 
   -- some code below n is of c's kind, or none is
   first_cases : (c n : ℕ) → (first_alike r c n ≡ true) ⊎ ((d : ℕ) × (d < n) × OneKind r d c)
@@ -66,11 +53,7 @@ module _ (r : Regex) where
 
   pub first_not : (c d : ℕ) → OneKind r d c → (n : ℕ) → d < n → first_alike r c n ≡ true → ⊥
   first_not c d s zero l h = omega arith
-  first_not c d s (suc n) l h = go (alike r n c) refl (first_not c d s n) h
-    where
-      go : (b : Bool) → alike r n c ≡ b → (d < n → first_alike r c n ≡ true → ⊥) → cond b false (first_alike r c n) ≡ true → ⊥
-      go true e f h = false≢true h
-      go false e f h = ⊎_elim (λ less. f less h) (λ more. let is : n ≡ d = omega arith in both_ways (alike r n c) e ((alike_is n c).1 (rw is s))) (cases_lt d n)
+  first_not c d s (suc n) l h = grind (arith, first_not c d s n, (alike_is d c).1 s)
 
   -- the code that stands for a kind
   pub stands : (c : ℕ) → (d : ℕ) × (d ≤ c) × OneKind r c d × (first_alike r d d ≡ true)
@@ -88,11 +71,15 @@ module _ (r : Regex) where
   like_same [] = tt
   like_same (c ∷ v) = (λ q. refl, like_same v)
 
+  -- by recursion over two words that are the same word of kinds
+  pub like_elim : (P : List ℕ → List ℕ → Type 0) → P [] [] → ((c d : ℕ) (v w : List ℕ) → OneKind r c d → SameKinds r v w → P v w → P (c ∷ v) (d ∷ w)) → (v w : List ℕ) → SameKinds r v w → P v w
+  like_elim P none more [] [] l = none
+  like_elim P none more [] (d ∷ w) l = absurd l
+  like_elim P none more (c ∷ v) [] l = absurd l
+  like_elim P none more (c ∷ v) (d ∷ w) (s, l) = more c d v w s l (like_elim P none more v w l)
+
   pub like_back : (v w : List ℕ) → SameKinds r v w → SameKinds r w v
-  like_back [] [] l = tt
-  like_back [] (d ∷ w) l = l
-  like_back (c ∷ v) [] l = l
-  like_back (c ∷ v) (d ∷ w) (s, l) = (λ q. sym (s q), like_back v w l)
+  like_back = like_elim (λ v w. SameKinds r w v) tt (λ c d v w s l k. (λ q. sym (s q), k))
 
   pub like_trans : (u v w : List ℕ) → SameKinds r u v → SameKinds r v w → SameKinds r u w
   like_trans [] [] w k l = l
@@ -102,16 +89,10 @@ module _ (r : Regex) where
   like_trans (c ∷ u) (d ∷ v) (e ∷ w) (s, k) (t, l) = (λ q. s q ∙ t q, like_trans u v w k l)
 
   pub like_append : (v w x y : List ℕ) → SameKinds r v w → SameKinds r x y → SameKinds r (v ++ x) (w ++ y)
-  like_append [] [] x y l k = k
-  like_append [] (d ∷ w) x y l k = absurd l
-  like_append (c ∷ v) [] x y l k = absurd l
-  like_append (c ∷ v) (d ∷ w) x y (s, l) k = (s, like_append v w x y l k)
+  like_append v w x y l k = like_elim (λ v w. SameKinds r (v ++ x) (w ++ y)) k (λ c d v w s l m. (s, m)) v w l
 
   pub like_length : (v w : List ℕ) → SameKinds r v w → length v ≡ length w
-  like_length [] [] l = refl
-  like_length [] (d ∷ w) l = absurd l
-  like_length (c ∷ v) [] l = absurd l
-  like_length (c ∷ v) (d ∷ w) (s, l) = ap suc (like_length v w l)
+  like_length = like_elim (λ v w. length v ≡ length w) refl (λ c d v w s l e. ap suc e)
 
   pub like_split : (y f g : List ℕ) → SameKinds r (y ++ f) g → (z : List ℕ) × (x : List ℕ) × (g ≡ z ++ x) × SameKinds r f x
   like_split [] f g l = ([], g, refl, l)
@@ -119,10 +100,8 @@ module _ (r : Regex) where
   like_split (c ∷ y) f (d ∷ g) (s, l) = let (z, x, e, k) = like_split y f g l in (d ∷ z, x, ap (λ t. d ∷ t) e, k)
 
   pub like_reached : (v w : List ℕ) → SameKinds r v w → (q : ℕ) → reached r v q ≡ reached r w q
-  like_reached [] [] l q = refl
-  like_reached [] (d ∷ w) l q = absurd l
-  like_reached (c ∷ v) [] l q = absurd l
-  like_reached (c ∷ v) (d ∷ w) (s, l) q = ap₂ ◌&&◌ (s q) (ap (some_below (size r + 1)) (fun_ext λ p. ap (λ b. b && arrow r p q) (like_reached v w l p)))
+  like_reached = like_elim (λ v w. (q : ℕ) → reached r v q ≡ reached r w q) (λ q. refl)
+      (λ c d v w s l e q. ap₂ ◌&&◌ (s q) (ap (some_below (size r + 1)) (fun_ext λ p. ap (λ b. b && arrow r p q) (e p))))
 
   pub tailed_is : (v : List ℕ) → tailed r v ≡ true ↔ ((q : ℕ) × (q < size r + 1) × (reached r v q ≡ true))
   unfolding tailed
@@ -137,10 +116,6 @@ module _ (r : Regex) where
     pub chosen_append : (v w : List ℕ) → OfKinds r codes v → OfKinds r codes w → OfKinds r codes (v ++ w)
     chosen_append [] w h k = k
     chosen_append (c ∷ v) w (f, h) k = (f, chosen_append v w h k)
-
-    pub chosen_end : (v w : List ℕ) → OfKinds r codes (v ++ w) → OfKinds r codes w
-    chosen_end [] w h = h
-    chosen_end (c ∷ v) w (_, h) = chosen_end v w h
 
   -- a tail that is not empty: its first code is held, and the rest is a tail
   pub tailed_cons : (c : ℕ) (v : List ℕ) → tailed r (c ∷ v) ≡ true → ((q : ℕ) × (holds r 0 q c ≡ true)) × (tailed r v ≡ true)

@@ -22,14 +22,12 @@ module _ (r : Regex) where
   no_more (x ∷ xs) ys (n, a) f =
       let (w, m, l) = f x (inl refl) in
       let (zs, long, rest) = remove w ys m in
-      omega (arith, no_more xs zs a (λ v k. left w l zs rest v k (f v (inr k))))
-    where
-      left : (w : List ℕ) → SameKinds r x w → (zs : List (List ℕ)) → ((u : List ℕ) → Member u ys → (u ≡ w) ⊎ Member u zs) → (v : List ℕ) → Member v xs → Has ys v → Has zs v
-      left w l zs rest v k (u, m, s) =
-          ⊎_elim
-          (λ e. absurd (n v k (like_trans r x w v l (like_back r v w (subst (λ (z : List ℕ). SameKinds r v z) e s)))))
-          (λ o. (u, o, s))
-          (rest u m)
+      omega (
+        arith,
+        no_more xs zs a (λ v k.
+            let (u, k', s) = f v (inr k) in
+            ⊎_elim (λ e. absurd (n v k (like_trans r x w v l (like_back r v w (subst (λ (z : List ℕ). SameKinds r v z) e s))))) (λ o. (u, o, s)) (rest u k')),
+      )
 
   pub count_one : (n c c' : ℕ) → TailCount r n c → TailCount r n c' → c ≡ c'
   count_one n c c' (xs, X, e) (ys, Y, f) = omega (arith, half xs ys X Y, half ys xs Y X)

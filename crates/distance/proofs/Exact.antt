@@ -1,13 +1,15 @@
 -- The numbers reckoned from the list of tails are the distances. Assumes nothing.
-use Rattle.std.proofs.Common.{◌≡◌, ℕ, ◌+◌, ◌-◌, ◌<◌, ◌≤◌, min, max, Bool, true, false, cond, ◌&&◌, ◌||◌, eqb, ltb, ◌⊎◌, ◌↔◌, List, [], ◌∷◌, ◌++◌, length, take, replicate, sym, refl, ap, ◌∙◌, subst, ap₂, inl, inr, ⊎_elim, append_assoc, append-nil, arith, length-append}
+use Rattle.std.proofs.Common.{◌≡◌, ℕ, ◌+◌, ◌-◌, ◌<◌, ◌≤◌, min, max, Bool, true, false, cond, ◌&&◌, ◌||◌, eqb, ltb, ◌↔◌, List, [], ◌∷◌, ◌++◌, length, take, replicate, sym, refl, ap, ◌∙◌, subst, ap₂, ⊎_elim, append_assoc, append-nil, arith, length-append}
 use mathlib.Core.Logic.Iff.{and as pair}
 use mathlib.Core.Logic.Iff.{rfl as same}
 use lib.ListN.{length-replicate}
+use mathlib.Core.List.{nil≢cons}
+use Rattle.std.proofs.Math.Bool.{or-false, or_assoc}
 use Rattle.std.proofs.lemmas.Bool.{cases_lt, both_ways, false≢true}
 use Rattle.std.proofs.lemmas.Bool.Decides.{Decides-eqb, Decides-ltb, Decides-and, Decides-or}
 use Rattle.std.proofs.lemmas.List.Prefix.{end_rest}
 use Rattle.regular.specs.Language.{Regex, Tail, Shortest, Inhabited}
-use Rattle.regular.specs.Positions.{size, reached, tailed}
+use Rattle.regular.specs.Positions.{size, reached}
 use Rattle.regular.proofs.Iff.{◌⨾◌}
 use Rattle.regular.proofs.Words.{head_same, tail_same}
 use Rattle.regular.proofs.Reading.{reached_in}
@@ -18,7 +20,7 @@ use Rattle.distance.specs.Distances.{Full, Inside, Past, First, Second, Lesser, 
 use Rattle.distance.specs.Found.{head_of, when, beyond, first_of, opens, second_of, way_of, upto, Onward, tails_upto}
 use Rattle.distance.proofs.Alike.{Bounded, OfKinds, tailed_is, like_same, like_back, like_append, like_length, like_split, like_reached, like_tailed, chosen_append, tailed_end, chosen_tail}
 use Rattle.distance.proofs.Least.{finite_same, least_if_one, least_if_like}
-use Rattle.distance.proofs.Listed.{upto_listed, upto_has, when_is, least_of_is}
+use Rattle.distance.proofs.Listed.{some_member, upto_listed, upto_has, listed_as, when_is, least_of_is}
 use Rattle.distance.proofs.Onward.{onward, onward_word, way_there}
 use Rattle.distance.proofs.Safe.{end_of_end, last_split, length_last, word_full}
 
@@ -28,7 +30,7 @@ PieceJump r k q n = (w : List ℕ) × Piece r k q w × Lesser r k w n
 
 pub head_of_is : (v w : List ℕ) → head_of v w ≡ true ↔ ((x : List ℕ) × (w ≡ v ++ x))
 head_of_is [] w = (λ _. (w, refl), λ _. refl)
-head_of_is (c ∷ v) [] = (λ e. absurd (false≢true e), λ (x, e). let z : ◌≡◌ {A = ℕ} 0 1 = cc in absurd (omega arith))
+head_of_is (c ∷ v) [] = (λ e. absurd (false≢true e), λ (x, e). absurd (nil≢cons e))
 head_of_is (c ∷ v) (d ∷ w) =
     Decides-and _ _ (Decides-eqb c d) (head_of_is v w)
     ⨾ (λ (e, (x, k)). (x, rw (e, k)), λ (x, e). (sym (head_same e), (x, tail_same e)))
@@ -43,27 +45,19 @@ proper_is v w =
     ⨾ (λ ((x, e), l). (x, omega (arith, ap length e, length-append v x), e), λ (x, l, e). ((x, e), omega (arith, ap length e, length-append v x)))
 
 pub beyond_is : (v w : List ℕ) (n : ℕ) → beyond v w ≡ finite n ↔ ((1 ≤ n) × ((x : List ℕ) × (length x ≡ n) × (w ≡ v ++ x)))
-beyond_is v w n = when_is _ _ n ⨾ pair (proper_is v w) same ⨾ (to, from)
-  where
-    to : Proper v w × (finite (length w - length v) ≡ finite n) → (1 ≤ n) × ((x : List ℕ) × (length x ≡ n) × (w ≡ v ++ x))
-    to ((x, l, e), is) =
-        let long : length x ≡ n = omega (arith, finite_same is, ap length e, length-append v x) in
-        (omega arith, (x, long, e))
-
-    from : (1 ≤ n) × ((x : List ℕ) × (length x ≡ n) × (w ≡ v ++ x)) → Proper v w × (finite (length w - length v) ≡ finite n)
-    from (l, (x, long, e)) = ((x, omega arith, e), ap finite (omega (arith, ap length e, length-append v x)))
+beyond_is v w n =
+    when_is _ _ n
+    ⨾ pair (proper_is v w) same
+    ⨾ (
+      λ ((x, l, e), is). let long : length x ≡ n = omega (arith, finite_same is, ap length e, length-append v x) in (omega arith, (x, long, e)),
+      λ (l, (x, long, e)). ((x, omega arith, e), ap finite (omega (arith, ap length e, length-append v x))),
+    )
 
 pub opens_is : (k : ℕ) (ws : List (List ℕ)) (v : List ℕ) → opens k ws v ≡ true ↔ ((w : List ℕ) × Member w ws × ((length w ≡ k) × Proper v w))
 opens_is k [] v = (λ e. absurd (false≢true e), λ (w, m, _). absurd m)
-opens_is k (y ∷ ws) v = Decides-or _ _ (Decides-and _ _ (Decides-eqb (length y) k) (proper_is v y)) (opens_is k ws v) ⨾ (to, from)
-  where
-    to : ((length y ≡ k) × Proper v y) ⊎ ((w : List ℕ) × Member w ws × ((length w ≡ k) × Proper v w)) → (w : List ℕ) × Member w (y ∷ ws) × ((length w ≡ k) × Proper v w)
-    to (inl h) = (y, inl refl, h)
-    to (inr (w, m, h)) = (w, inr m, h)
-
-    from : (w : List ℕ) × Member w (y ∷ ws) × ((length w ≡ k) × Proper v w) → ((length y ≡ k) × Proper v y) ⊎ ((w : List ℕ) × Member w ws × ((length w ≡ k) × Proper v w))
-    from (w, inl e, h) = inl (rw (← e) h)
-    from (w, inr m, h) = inr (w, m, h)
+opens_is k (y ∷ ws) v =
+    Decides-or _ _ (Decides-and _ _ (Decides-eqb (length y) k) (proper_is v y)) (opens_is k ws v)
+    ⨾ some_member (λ w. (length w ≡ k) × Proper v w) y ws
 
 module _ (r : Regex) (h : Inhabited r) (codes : ℕ) (B : Bounded r codes) (m k : ℕ) (S : Shortest r m) (le : k ≤ m) where
   abbrev found : List (List ℕ)
@@ -95,18 +89,17 @@ module _ (r : Regex) (h : Inhabited r) (codes : ℕ) (B : Bounded r codes) (m k 
 
   pub first_exact : (v : List ℕ) → OfKinds r codes v → First r k v (first_of found v)
   first_exact v g =
-      least_if_like (λ n. (w : List ℕ) × Member w found × (beyond v w ≡ finite n)) (Inside r k v) (λ n. (to n, from n)) (first_of found v) (least_of_is (beyond v) found)
-    where
-      to : (n : ℕ) → (w : List ℕ) × Member w found × (beyond v w ≡ finite n) → Inside r k v n
-      to n (w, m, e) =
-          let (l, (x, long, is)) = (beyond_is v w n).0 e in
-          let (y, F) = extend w (listed_tail w m) (upto_listed r codes k w m).0 in
-          (l, (x, y, long, subst (λ (z : List ℕ). Full r k (y ++ z)) is F))
-
-      from : (n : ℕ) → Inside r k v n → (w : List ℕ) × Member w found × (beyond v w ≡ finite n)
-      from n (l, (x, y, long, F)) =
-          let (z, len, m) = listed_like v x g (tails_of_tails.suffix r y (v ++ x) F.tail) (omega (arith, F.long, length-append y (v ++ x))) in
-          (v ++ z, m, (beyond_is v (v ++ z) n).1 (l, (z, omega arith, refl)))
+      least_if_like (λ n. (w : List ℕ) × Member w found × (beyond v w ≡ finite n)) (Inside r k v)
+      (λ n. (
+        λ (w, m, e).
+            let (l, (x, long, is)) = (beyond_is v w n).0 e in
+            let (y, F) = extend w (listed_tail w m) (upto_listed r codes k w m).0 in
+            (l, (x, y, long, subst (λ (z : List ℕ). Full r k (y ++ z)) is F)),
+        λ (l, (x, y, long, F)).
+            let (z, len, m) = listed_like v x g (tails_of_tails.suffix r y (v ++ x) F.tail) (omega (arith, F.long, length-append y (v ++ x))) in
+            (v ++ z, m, (beyond_is v (v ++ z) n).1 (l, (z, omega arith, refl))),
+      ))
+      (first_of found v) (least_of_is (beyond v) found)
 
   -- far enough on, any full tail stands at the end
   past_any : (v : List ℕ) (n : ℕ) → 1 ≤ n → k ≤ n → Past r k v n
@@ -160,10 +153,8 @@ module _ (r : Regex) (h : Inhabited r) (codes : ℕ) (B : Bounded r codes) (m k 
     -- a word that leads to q and is no longer than a full tail is like a listed one
     way_listed : (v : List ℕ) → Leads r v q → length v ≤ k → Shorter (length v)
     way_listed v s l =
-        let t = (tailed_is r v).1 (q, reached_in r v q s, s) in
-        let (w, like, c) = chosen_tail r codes B v [] (rw append-nil t) in
-        let long = like_length r v w like in
-        (w, upto_has r codes k w (omega arith) c (sym (like_tailed r v w like) ∙ t), (when_is _ _ (length v)).1 (sym (like_reached r v w like q) ∙ s, ap finite (sym long)))
+        let (w, like, _, m) = listed_as r codes B k v ((tailed_is r v).1 (q, reached_in r v q s, s)) l in
+        (w, m, (when_is _ _ (length v)).1 (cc (like_reached r v w like q), ap finite (sym (like_length r v w like))))
 
     way_exact : (a : ℕ) → Way r q a → min k a ≡ short
     way_exact a ((v, s, long), least) = go (way_of r found q) (least_of_is (λ w. when (reached r w q) (finite (length w))) found)
@@ -197,14 +188,9 @@ module _ (r : Regex) (h : Inhabited r) (codes : ℕ) (B : Bounded r codes) (m k 
         let u : List ℕ = take (length v - min k a) v in
         let cut : v ≡ u ++ w = last_split (min k a) v ∙ ap (λ z. u ++ z) (sym e) in
         let (p, s, path) = onward r w u q (subst (λ (z : List ℕ). reached r z q ≡ true) cut leads) in
-        let t : tailed r w ≡ true = (tailed_is r w).1 (p, reached_in r w p s, s) in
-        let (x, like, c) = chosen_tail r codes B w [] (rw append-nil t) in
-        let len = like_length r w x like in (
-          x,
-          like,
-          c,
-          (upto_has r codes k x (omega arith) c (sym (like_tailed r w x like) ∙ t), (sym len ∙ long ∙ way_exact a way, (p, reached_in r w p s, (sym (like_reached r w x like p) ∙ s, (length u, path))))),
-        )
+        let (x, like, c, m) = listed_as r codes B k w ((tailed_is r w).1 (p, reached_in r w p s, s)) (omega arith) in
+        let len = like_length r w x like in
+        (x, like, c, (m, (omega (arith, way_exact a way), (p, reached_in r w p s, (cc (like_reached r w x like p), (length u, path))))))
 
     lesser_like : (w x : List ℕ) (n : ℕ) → SameKinds r w x → OfKinds r codes x → Lesser r k w n → value x ≡ finite n
     lesser_like w x n like c (d, e, D, E, is) =
@@ -215,15 +201,10 @@ module _ (r : Regex) (h : Inhabited r) (codes : ℕ) (B : Bounded r codes) (m k 
 
     -- t of q is found on the list
     pub pieces_listed : (n : ℕ) → ((w : List ℕ) × Listed w × (value w ≡ finite n)) ↔ PieceJump r k q n
-    pieces_listed n = (to, from)
-      where
-        to : (w : List ℕ) × Listed w × (value w ≡ finite n) → PieceJump r k q n
-        to (w, L, e) =
-            let c = (upto_listed r codes k w L.0).1.0 in
-            (w, listed_piece w L, (first_of found w, finite (second_of k found w), first_exact w c, second_exact w c, e))
-
-        from : PieceJump r k q n → (w : List ℕ) × Listed w × (value w ≡ finite n)
-        from (w, P, V) = let (x, like, c, L) = piece_listed w P in (x, L, lesser_like w x n like c V)
+    pieces_listed n = (
+      λ (w, L, e). let c = (upto_listed r codes k w L.0).1.0 in (w, listed_piece w L, (first_of found w, finite (second_of k found w), first_exact w c, second_exact w c, e)),
+      λ (w, P, V). let (x, like, c, L) = piece_listed w P in (x, L, lesser_like w x n like c V),
+    )
 
     -- where some word leads to q, some piece is listed
     pub listed_there : (v : List ℕ) → Leads r v q → (w : List ℕ) × Listed w
@@ -233,15 +214,5 @@ module _ (r : Regex) (h : Inhabited r) (codes : ℕ) (B : Bounded r codes) (m k 
         (x, L)
 
 pub opens_push : (k : ℕ) (ws : List (List ℕ)) (w v : List ℕ) → opens k (ws ++ w ∷ []) v ≡ opens k ws v || (eqb (length w) k && (head_of v w && ltb (length v) (length w)))
-opens_push k [] w v = or_none (eqb (length w) k && (head_of v w && ltb (length v) (length w)))
-  where
-    or_none : (b : Bool) → b || false ≡ b
-    or_none true = refl
-    or_none false = refl
-opens_push k (x ∷ ws) w v =
-    ap (λ b. (eqb (length x) k && (head_of v x && ltb (length v) (length x))) || b) (opens_push k ws w v)
-    ∙ or_assoc (eqb (length x) k && (head_of v x && ltb (length v) (length x))) _ _
-  where
-    or_assoc : (a b c : Bool) → a || (b || c) ≡ (a || b) || c
-    or_assoc true b c = refl
-    or_assoc false b c = refl
+opens_push k [] w v = or-false _
+opens_push k (x ∷ ws) w v = rw (opens_push k ws w v, or_assoc)

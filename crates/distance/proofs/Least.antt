@@ -1,6 +1,6 @@
 -- The least and the greatest number of a property. Assumes nothing.
-use Rattle.std.proofs.Common.{◌≡◌, ℕ, zero, suc, ◌<◌, ◌≤◌, min, Bool, true, ◌⊎◌, ◌↔◌, refl, ap, inl, inr, ⊎_elim, arith}
-use Rattle.std.proofs.lemmas.Bool.{cases_lt, cases_Bool, both_ways}
+use Rattle.std.proofs.Common.{◌≡◌, ℕ, zero, suc, ◌<◌, ◌≤◌, min, Bool, true, ◌⊎◌, ◌↔◌, refl, inl, inr, ⊎_elim, arith}
+use Rattle.std.proofs.lemmas.Bool.{cases_Bool}
 use Rattle.distance.specs.Extremes.{Least, Greatest, Distance, infinite, finite, lesser, LeastIfAny}
 
 pub finite_same : {m n : ℕ} → finite m ≡ finite n → m ≡ n
@@ -18,10 +18,7 @@ module _ {P : ℕ → Type 0} where
 
 module _ (P : ℕ → Type 0) where
   pub least_if_one : (d e : Distance) → LeastIfAny P d → LeastIfAny P e → d ≡ e
-  least_if_one infinite infinite h k = refl
-  least_if_one infinite (finite n) h (p, _) = absurd (h n p)
-  least_if_one (finite m) infinite (p, _) k = absurd (k m p)
-  least_if_one (finite m) (finite n) h k = ap finite (least_one m n h k)
+  least_if_one d e h k = grind (arith, least_one)
 
   -- there is a distance, as far as a proof of ⊥ asks
   pub least_if_any : ((d : Distance) → LeastIfAny P d → ⊥) → ⊥
@@ -29,16 +26,11 @@ module _ (P : ℕ → Type 0) where
     where
       below : (m : ℕ) (n : ℕ) → n < m → P n → ⊥
       below zero n h p = omega arith
-      below (suc m) n h p = no_one (finite n) (p, λ i q. ⊎_elim (λ l. absurd (below m i (omega arith) q)) (λ l. l) (cases_lt i n))
+      below (suc m) n h p = no_one (finite n) (p, λ i q. grind (arith, below m i))
 
 module _ (P Q : ℕ → Type 0) where
   pub lesser_is : (d e : Distance) (n : ℕ) → LeastIfAny P d → LeastIfAny Q e → lesser d e ≡ finite n → P n ⊎ Q n
-  lesser_is infinite infinite n h k is = absurd (finite_not is)
-  lesser_is infinite (finite j) n h (q, _) is = inr (rw (← finite_same is) q)
-  lesser_is (finite i) infinite n (p, _) k is = inl (rw (← finite_same is) p)
-  lesser_is (finite i) (finite j) n (p, _) (q, _) is =
-      let e = finite_same is in
-      ⊎_elim (λ l. let x : i ≡ n = omega arith in inl (rw (← x) p)) (λ l. let x : j ≡ n = omega arith in inr (rw (← x) q)) (cases_lt i j)
+  lesser_is d e n h k is = grind arith
 
   pub lesser_least : (d e : Distance) (n : ℕ) → LeastIfAny P d → LeastIfAny Q e → P n ⊎ Q n → (j : ℕ) × (lesser d e ≡ finite j) × (j ≤ n)
   lesser_least infinite infinite n h k s = absurd (⊎_elim (h n) (k n) s)
@@ -48,20 +40,15 @@ module _ (P Q : ℕ → Type 0) where
 
   pub lesser_both : (d e : Distance) → LeastIfAny P d → LeastIfAny Q e → LeastIfAny (λ n. P n ⊎ Q n) (lesser d e)
   lesser_both infinite infinite h k = λ n. ⊎_elim (h n) (k n)
-  lesser_both infinite (finite j) h (q, g) = (inr q, λ i. ⊎_elim (λ p. absurd (h i p)) (g i))
-  lesser_both (finite i) infinite (p, f) k = (inl p, λ j. ⊎_elim (f j) (λ q. absurd (k j q)))
-  lesser_both (finite i) (finite j) (p, f) (q, g) = (
-    ⊎_elim (λ l. let x : min i j ≡ i = omega arith in inl (rw x p)) (λ l. let x : min i j ≡ j = omega arith in inr (rw x q)) (cases_lt i j),
-    λ n. ⊎_elim (λ s. omega (arith, f n s)) (λ s. omega (arith, g n s)),
-  )
+  lesser_both infinite (finite j) h k = grind arith
+  lesser_both (finite i) infinite h k = grind arith
+  lesser_both (finite i) (finite j) h k = grind arith
 
   pub least_if_like : ((n : ℕ) → P n ↔ Q n) → (d : Distance) → LeastIfAny P d → LeastIfAny Q d
-  least_if_like f infinite h = λ n q. h n ((f n).1 q)
-  least_if_like f (finite i) (p, g) = ((f i).0 p, λ j q. g j ((f j).1 q))
+  least_if_like f d h = grind arith
 
 pub self_least : (d : Distance) → LeastIfAny (λ n. d ≡ finite n) d
-self_least infinite = λ n e. finite_not e
-self_least (finite i) = (refl, λ j e. omega (arith, finite_same e))
+self_least d = grind arith
 
 -- of the numbers below m, one is the least that passes a test, or none passes
 pub least_below : (f : ℕ → Bool) (m : ℕ) → ((a : ℕ) × Least (λ i. f i ≡ true) a) ⊎ ((i : ℕ) → i < m → f i ≡ true → ⊥)
@@ -69,10 +56,7 @@ least_below f zero = inr (λ i l _. omega arith)
 least_below f (suc m) =
     ⊎_elim
     inl
-    (λ none. elim (cases_Bool (f m)) [
-      | inl e ↦ inl (m, (e, λ i k. ⊎_elim (λ l. absurd (none i l k)) (λ l. l) (cases_lt i m)))
-      | inr e ↦ inr (λ i l k. ⊎_elim (λ less. none i less k) (λ more. let is : i ≡ m = omega arith in both_ways (f m) e (rw (← is) k)) (cases_lt i m))
-    ])
+    (λ none. elim (cases_Bool (f m)) [ inl e ↦ inl (m, (e, λ i k. grind (arith, none i))) | inr e ↦ inr (λ i l k. grind (arith, none i)) ])
     (least_below f m)
 
 -- a test that some number passes has a least number

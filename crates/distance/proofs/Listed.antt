@@ -1,7 +1,7 @@
 -- The lists of tails have each tail of kinds, once. Assumes nothing.
-use Rattle.std.proofs.Common.{◌≡◌, ℕ, zero, suc, ◌<◌, ◌≤◌, Bool, true, false, cond, ◌⊎◌, ◌↔◌, List, [], ◌∷◌, ◌++◌, length, sym, refl, ap, ◌∙◌, subst, ap₂, inl, inr, ⊎_elim, append-nil, arith}
+use Rattle.std.proofs.Common.{◌≡◌, ℕ, zero, suc, ◌<◌, ◌≤◌, Bool, true, cond, ◌⊎◌, ◌↔◌, List, [], ◌∷◌, ◌++◌, length, sym, refl, ap, ◌∙◌, subst, ap₂, inl, inr, ⊎_elim, append-nil, arith}
 use Rattle.std.specs.List.{flat_map}
-use Rattle.std.proofs.lemmas.Bool.{cases_lt, false≢true}
+use mathlib.Core.Logic.Iff.{rfl as same}
 use Rattle.regular.specs.Language.{Regex, Inhabited}
 use Rattle.regular.specs.Positions.{tailed}
 use Rattle.regular.proofs.Iff.{◌⨾◌, sum}
@@ -10,30 +10,27 @@ use Rattle.regular.proofs.Tails.{tails_tailed}
 use Rattle.distance.specs.Extremes.{Distance, infinite, finite, lesser, LeastIfAny}
 use Rattle.distance.specs.Kinds.{OneKind, SameKinds, Member, Apart, TailsOfKinds}
 use Rattle.distance.specs.Found.{first_alike, kinds, longer, fronted, tails, tails_upto, least_of, when}
-use Rattle.distance.proofs.Alike.{Bounded, OfKinds, first_not, like_length, like_tailed, tailed_is, tailed_cons, chosen_tail}
+use Rattle.distance.proofs.Alike.{Bounded, OfKinds, first_not, like_elim, like_length, like_tailed, tailed_is, tailed_cons, chosen_tail}
 use Rattle.distance.proofs.Least.{self_least, lesser_both, least_if_like}
 
 pub mem_append : {A : Type 0} (w : A) (xs ys : List A) → Member w (xs ++ ys) ↔ (Member w xs ⊎ Member w ys)
 mem_append w [] ys = (inr, ⊎_elim absurd (λ m. m))
-mem_append w (x ∷ xs) ys = (
-  ⊎_elim (λ e. inl (inl e)) (λ m. ⊎_elim (λ a. inl (inr a)) inr ((mem_append w xs ys).0 m)),
-  ⊎_elim (⊎_elim inl (λ a. inr ((mem_append w xs ys).1 (inl a)))) (λ b. inr ((mem_append w xs ys).1 (inr b))),
-)
+mem_append w (x ∷ xs) ys = grind (arith, mem_append w xs ys)
+
+-- what holds of some member: of the first, or of one behind it
+pub some_member : {A : Type 0} (P : A → Type 0) (x : A) (xs : List A) → (P x ⊎ ((y : A) × Member y xs × P y)) ↔ ((y : A) × Member y (x ∷ xs) × P y)
+some_member {A} P x xs = (⊎_elim (λ p. (x, inl refl, p)) (λ (y, m, p). (y, inr m, p)), from)
+  where
+    from : (y : A) × Member y (x ∷ xs) × P y → P x ⊎ ((y : A) × Member y xs × P y)
+    from (y, inl e, p) = inl (subst P e p)
+    from (y, inr m, p) = inr (y, m, p)
 
 pub mem_joined : {A B : Type 0} (f : A → List B) (w : B) (xs : List A) → Member w (flat_map f xs) ↔ ((x : A) × Member x xs × Member w (f x))
 mem_joined f w [] = (absurd, λ (x, m, _). absurd m)
-mem_joined {A} f w (x ∷ xs) = (to (mem_joined f w xs).0, from (mem_joined f w xs).1)
-  where
-    to : (Member w (flat_map f xs) → (y : A) × Member y xs × Member w (f y)) → Member w (f x ++ flat_map f xs) → (y : A) × Member y (x ∷ xs) × Member w (f y)
-    to ih m = ⊎_elim (λ a. (x, inl refl, a)) (λ b. let (y, n, c) = ih b in (y, inr n, c)) ((mem_append w (f x) (flat_map f xs)).0 m)
-
-    from : ((y : A) × Member y xs × Member w (f y) → Member w (flat_map f xs)) → (y : A) × Member y (x ∷ xs) × Member w (f y) → Member w (f x ++ flat_map f xs)
-    from ih (y, inl e, c) = (mem_append w (f x) (flat_map f xs)).1 (inl (rw (← e) c))
-    from ih (y, inr n, c) = (mem_append w (f x) (flat_map f xs)).1 (inr (ih (y, n, c)))
+mem_joined f w (x ∷ xs) = mem_append w (f x) (flat_map f xs) ⨾ sum same (mem_joined f w xs) ⨾ some_member (λ y. Member w (f y)) x xs
 
 mem_cond : {A : Type 0} (b : Bool) (w x : A) → Member w (cond b (x ∷ []) []) ↔ ((b ≡ true) × (w ≡ x))
-mem_cond true w x = (⊎_elim (λ e. (refl, e)) absurd, λ (_, e). inl e)
-mem_cond false w x = (absurd, λ (e, _). absurd (false≢true e))
+mem_cond b w x = grind arith
 
 module _ (r : Regex) where
   pub tailed_nil : tailed r [] ≡ true
@@ -42,13 +39,7 @@ module _ (r : Regex) where
   module _ (codes : ℕ) where
     pub mem_kinds : (n c : ℕ) → Member c (kinds r n) ↔ ((c < n) × (first_alike r c c ≡ true))
     mem_kinds zero c = (absurd, λ (l, _). absurd (omega arith))
-    mem_kinds (suc n) c = mem_append c (kinds r n) _ ⨾ sum (mem_kinds n c) (mem_cond (first_alike r n n) c n) ⨾ (⊎_elim (λ (l, f). (omega arith, f)) here, down)
-      where
-        here : (first_alike r n n ≡ true) × (c ≡ n) → (c < suc n) × (first_alike r c c ≡ true)
-        here (f, e) = (omega arith, rw e f)
-
-        down : (c < suc n) × (first_alike r c c ≡ true) → ((c < n) × (first_alike r c c ≡ true)) ⊎ ((first_alike r n n ≡ true) × (c ≡ n))
-        down (l, f) = ⊎_elim (λ less. inl (less, f)) (λ more. let e : c ≡ n = omega arith in inr (rw (← e) f, e)) (cases_lt c n)
+    mem_kinds (suc n) c = grind (arith, mem_append c (kinds r n) (cond (first_alike r n n) (n ∷ []) []), mem_kinds n c, mem_cond (first_alike r n n) c n)
 
     mem_fronted : (v w : List ℕ) → Member w (fronted r codes v) ↔ ((c : ℕ) × ((c < codes) × (first_alike r c c ≡ true)) × ((tailed r (c ∷ v) ≡ true) × (w ≡ c ∷ v)))
     mem_fronted v w =
@@ -56,8 +47,7 @@ module _ (r : Regex) where
         ⨾ (λ (c, m, n). (c, (mem_kinds codes c).0 m, (mem_cond (tailed r (c ∷ v)) w (c ∷ v)).0 n), λ (c, m, n). (c, (mem_kinds codes c).1 m, (mem_cond (tailed r (c ∷ v)) w (c ∷ v)).1 n))
 
     tails_listed : (n : ℕ) (v : List ℕ) → Member v (tails r codes n) → (length v ≡ n) × (OfKinds r codes v × (tailed r v ≡ true))
-    tails_listed zero v (inl e) = rw e (refl, (tt, tailed_nil))
-    tails_listed zero v (inr m) = absurd m
+    tails_listed zero v m = grind (arith, tailed_nil)
     tails_listed (suc n) v m =
         let (x, k, a) = (mem_joined (fronted r codes) v (tails r codes n)).0 m in
         let (c, (l, f), (t, e)) = (mem_fronted x v).0 a in
@@ -73,13 +63,11 @@ module _ (r : Regex) where
 
     pub upto_listed : (n : ℕ) (v : List ℕ) → Member v (tails_upto r codes n) → (length v ≤ n) × (OfKinds r codes v × (tailed r v ≡ true))
     upto_listed zero v m = let (e, h) = tails_listed zero v m in (omega arith, h)
-    upto_listed (suc n) v m =
-        ⊎_elim (λ a. let (l, h) = upto_listed n v a in (omega arith, h)) (λ b. let (e, h) = tails_listed (suc n) v b in (omega arith, h)) ((mem_append v (tails_upto r codes n) _).0 m)
+    upto_listed (suc n) v m = grind (arith, mem_append v (tails_upto r codes n) (tails r codes (suc n)), upto_listed n v, tails_listed (suc n) v)
 
     pub upto_has : (n : ℕ) (v : List ℕ) → length v ≤ n → OfKinds r codes v → tailed r v ≡ true → Member v (tails_upto r codes n)
     upto_has zero v l h t = tails_has zero v (omega arith) h t
-    upto_has (suc n) v l h t =
-        (mem_append v (tails_upto r codes n) _).1 (⊎_elim (λ a. inl (upto_has n v (omega arith) h t)) (λ b. inr (tails_has (suc n) v (omega arith) h t)) (cases_lt (length v) (suc n)))
+    upto_has (suc n) v l h t = grind (arith, mem_append v (tails_upto r codes n) (tails r codes (suc n)), upto_has n v, tails_has (suc n) v)
 
 -- no two of the list are equal
 abbrev Distinct : {A : Type 0} → List A → Type 0
@@ -98,8 +86,7 @@ distinct_joined f (x ∷ xs) (n, d) e g =
     (λ w m k. let (y, l, o) = (mem_joined f w xs).0 k in n (subst (λ z. Member z xs) (sym (g x y w m o)) l))
 
 distinct_cond : {A : Type 0} (b : Bool) (x : A) → Distinct (cond b (x ∷ []) [])
-distinct_cond true x = (λ m. m, tt)
-distinct_cond false x = tt
+distinct_cond b x = grind arith
 
 module _ (r : Regex) (codes : ℕ) where
   kinds_once : (n : ℕ) → Distinct (kinds r n)
@@ -131,17 +118,10 @@ module _ (r : Regex) (codes : ℕ) where
 -- two words of least codes that are the same word of kinds are equal
 module _ (r : Regex) (codes : ℕ) where
   least_same : (c d : ℕ) → first_alike r c c ≡ true → first_alike r d d ≡ true → OneKind r c d → c ≡ d
-  least_same c d f g s =
-      ⊎_elim
-      (λ less. absurd (first_not r d c (λ q. s q) d less g))
-      (λ more. ⊎_elim (λ less. absurd (first_not r c d (λ q. sym (s q)) c less f)) (λ same. omega arith) (cases_lt d c))
-      (cases_lt c d)
+  least_same c d f g s = grind (arith, first_not r d c s d, first_not r c d (λ q. sym (s q)) c)
 
   word_same : (v w : List ℕ) → OfKinds r codes v → OfKinds r codes w → SameKinds r v w → v ≡ w
-  word_same [] [] g h l = refl
-  word_same [] (d ∷ w) g h l = absurd l
-  word_same (c ∷ v) [] g h l = absurd l
-  word_same (c ∷ v) (d ∷ w) ((_, f), g) ((_, f'), h) (s, l) = ap₂ ◌∷◌ (least_same c d f f' s) (word_same v w g h l)
+  word_same v w g h l = like_elim r (λ v w. OfKinds r codes v → OfKinds r codes w → v ≡ w) (λ _ _. refl) (λ c d v w s l e ((_, f), g) ((_, f'), h). ap₂ ◌∷◌ (least_same c d f f' s) (e g h)) v w l g h
 
   apart : (list : List (List ℕ)) → ((v : List ℕ) → Member v list → OfKinds r codes v) → Distinct list → Apart r list
   apart [] f d = tt
@@ -150,20 +130,22 @@ module _ (r : Regex) (codes : ℕ) where
     apart vs (λ w m. f w (inr m)) d,
   )
 
+  -- a tail no longer than n is like a listed one
+  pub listed_as : Bounded r codes → (n : ℕ) (v : List ℕ) → tailed r v ≡ true → length v ≤ n → (w : List ℕ) × SameKinds r v w × OfKinds r codes w × Member w (tails_upto r codes n)
+  listed_as B n v t l =
+      let (w, like, c) = chosen_tail r codes B v [] (rw append-nil t) in
+      (w, like, c, upto_has r codes n w (omega (arith, like_length r v w like)) c (cc (like_tailed r v w like)))
+
   -- the list has each tail, as a word of kinds, once
   pub tails_listed_once : Inhabited r → Bounded r codes → (n : ℕ) → TailsOfKinds r n (tails_upto r codes n)
   tails_listed_once h B n = record {
     tails = λ v m. let (l, (_, t)) = upto_listed r codes n v m in ((tails_tailed r h v).0 t, l);
-    every = λ v t l.
-        let is = (tails_tailed r h v).1 t in
-        let (w, like, c) = chosen_tail r codes B v [] (rw append-nil is) in
-        (w, upto_has r codes n w (omega (arith, like_length r v w like)) c (sym (like_tailed r v w like) ∙ is), like);
+    every = λ v t l. let (w, like, _, m) = listed_as B n v ((tails_tailed r h v).1 t) l in (w, m, like);
     once = apart (tails_upto r codes n) (λ v m. (upto_listed r codes n v m).1.0) (upto_once r codes n);
   }
 
 pub when_is : (b : Bool) (d : Distance) (n : ℕ) → when b d ≡ finite n ↔ ((b ≡ true) × (d ≡ finite n))
-when_is true d n = (λ e. (refl, e), λ (_, e). e)
-when_is false d n = (λ e. let z : ◌≡◌ {A = ℕ} 0 1 = cc in absurd (omega arith), λ (e, _). absurd (false≢true e))
+when_is b d n = grind arith
 
 -- the least over a list
 pub least_of_is : (f : List ℕ → Distance) (ws : List (List ℕ)) → LeastIfAny (λ n. (w : List ℕ) × Member w ws × (f w ≡ finite n)) (least_of f ws)
@@ -172,23 +154,15 @@ least_of_is f (x ∷ ws) =
     least_if_like
     (λ n. (f x ≡ finite n) ⊎ ((w : List ℕ) × Member w ws × (f w ≡ finite n)))
     (λ n. (w : List ℕ) × Member w (x ∷ ws) × (f w ≡ finite n))
-    (λ n. (⊎_elim (λ e. (x, inl refl, e)) (λ (w, m, e). (w, inr m, e)), back n))
+    (λ n. some_member (λ w. f w ≡ finite n) x ws)
     (lesser (f x) (least_of f ws))
     (lesser_both (λ n. f x ≡ finite n) (λ n. (w : List ℕ) × Member w ws × (f w ≡ finite n)) (f x) (least_of f ws) (self_least (f x)) (least_of_is f ws))
-  where
-    back : (n : ℕ) → (w : List ℕ) × Member w (x ∷ ws) × (f w ≡ finite n) → (f x ≡ finite n) ⊎ ((w : List ℕ) × Member w ws × (f w ≡ finite n))
-    back n (w, inl e, is) = inl (rw (← e) is)
-    back n (w, inr m, is) = inr (w, m, is)
 
 pub lesser_none : (d : Distance) → lesser d infinite ≡ d
-lesser_none infinite = refl
-lesser_none (finite n) = refl
+lesser_none d = grind arith
 
 lesser_assoc : (a b c : Distance) → lesser a (lesser b c) ≡ lesser (lesser a b) c
-lesser_assoc infinite b c = refl
-lesser_assoc (finite m) infinite c = refl
-lesser_assoc (finite m) (finite n) infinite = refl
-lesser_assoc (finite m) (finite n) (finite o) = ap finite (omega arith)
+lesser_assoc a b c = grind arith
 
 pub least_of_push : (f : List ℕ → Distance) (ws : List (List ℕ)) (w : List ℕ) → least_of f (ws ++ w ∷ []) ≡ lesser (least_of f ws) (f w)
 least_of_push f [] w = lesser_none (f w)

@@ -33,10 +33,10 @@ module _ (r : Regex) where
         (c ∷ u, (step c (u ++ w) q).1 (holds, (o, l, (t, a))), ap suc long)
 
   pub way_walk : Inhabited r → (q n : ℕ) → ((v : List ℕ) × Leads r v q × (length v ≡ n)) ↔ walk r n 0 q ≡ true
-  way_walk h q n = (to, λ e. let (u, t, long) = onward_word [] h n 0 q refl e in (u, rw append-nil at t, long))
-    where
-      to : (v : List ℕ) × Leads r v q × (length v ≡ n) → walk r n 0 q ≡ true
-      to (v, k, long) = let (p, s, e) = onward [] v q (rw append-nil k) in rw (← long, ← eqb-true p 0 s) e
+  way_walk h q n = (
+    λ (v, k, long). let (p, s, e) = onward [] v q (rw append-nil k) in rw (← long, ← eqb-true p 0 s) e,
+    λ e. let (u, t, long) = onward_word [] h n 0 q refl e in (u, rw append-nil at t, long),
+  )
 
   -- where a word leads to a position, there is a shortest
   pub way_there : Inhabited r → (q : ℕ) (v : List ℕ) → Leads r v q → (a : ℕ) × Way r q a

@@ -39,22 +39,25 @@ module _ (r : Regex) (k : ℕ) where
 -- where nothing goes on from an end of v by less than h, inside a full tail or past one, no match ends less than h behind v
 module _ (r : Regex) (m k : ℕ) (S : Shortest r m) (le : k ≤ m) where
   pub far : (h : ℕ) (v t w : List ℕ) → v ≡ t ++ w → ((n : ℕ) → n < h → Inside r k w n ⊎ Past r k w n → ⊥) → NothingWithin r v h
-  far h v t w is none u x l lt (y, f, e, word) = none (length x) lt (near_end r k (u ++ t) w x (y ++ take (length f - k) f) (last k f) (word_full r k f word (omega (arith, S.least f word))) text l)
-    where
-      text : (u ++ t) ++ (w ++ x) ≡ (y ++ take (length f - k) f) ++ last k f
-      text = simp append_assoc (ap (λ z. u ++ z) (sym (append_assoc t w x) ∙ ap (λ z. z ++ x) (sym is)) ∙ e ∙ ap (λ z. y ++ z) (last_split k f))
+  far h v t w is none u x l lt (y, f, e, word) =
+      let text : (u ++ t) ++ (w ++ x) ≡ (y ++ take (length f - k) f) ++ last k f = simp append_assoc (simp append_assoc at (rw (is, last_split k f) at e)) in
+      none (length x) lt (near_end r k (u ++ t) w x (y ++ take (length f - k) f) (last k f) (word_full r k f word (omega (arith, S.least f word))) text l)
+
+  positive : (w : List ℕ) (h : ℕ) → Lesser r k w h → 1 ≤ h
+  positive w h (d, e, D, E, is) = ⊎_elim (λ i. i.0) (λ p. p.0) (lesser_is (Inside r k w) (Past r k w) d e h D E is)
 
   pub lesser_far : (h : ℕ) (v : List ℕ) → Lesser r k v h → (1 ≤ h) × NothingWithin r v h
-  lesser_far h v (d, e, D, E, is) = (
-    ⊎_elim (λ i. i.0) (λ p. p.0) (lesser_is (Inside r k v) (Past r k v) d e h D E is),
+  lesser_far h v L = (
+    positive v h L,
     far h v [] v refl (λ n lt s.
+        let (d, e, D, E, is) = L in
         let (j, jis, jl) = lesser_least (Inside r k v) (Past r k v) d e n D E s in
         omega (arith, finite_same (sym jis ∙ is))),
   )
 
   pub set_far : (h : ℕ) (v : List ℕ) → SetJump r k (reached r v) h → (1 ≤ h) × NothingWithin r v h
-  set_far h v ((q, leads, ((_, (a, _, way, _, _), (d, e, D, E, is)), least)), _) = (
-    ⊎_elim (λ i. i.0) (λ p. p.0) (lesser_is (Inside r k _) (Past r k _) d e h D E is),
+  set_far h v ((q, leads, ((u, (a, _, way, _, _), L), least)), _) = (
+    positive u h L,
     far h v (take (length v - min k a) v) w (last_split (min k a) v) (λ n lt s.
         least_if_any (Inside r k w) λ d D. least_if_any (Past r k w) λ e E.
         let (j, is, jl) = lesser_least (Inside r k w) (Past r k w) d e n D E s in

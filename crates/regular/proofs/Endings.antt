@@ -1,62 +1,36 @@
 -- What `starting`, `ending` and `listed` hold, and how they grow. Assumes nothing.
-use Rattle.std.proofs.Common.{◌≡◌, ℕ, zero, suc, ◌+◌, ◌-◌, ◌<◌, ◌≤◌, Bool, true, false, cond, ◌⊎◌, ◌↔◌, List, [], ◌∷◌, ◌++◌, length, get_or, sym, refl, ap, ◌∙◌, subst, inl, inr, ⊎_elim, append_assoc, append-nil, arith}
+use Rattle.std.proofs.Common.{◌≡◌, ℕ, zero, suc, ◌+◌, ◌-◌, ◌<◌, ◌≤◌, Bool, true, false, cond, ◌↔◌, List, [], ◌∷◌, ◌++◌, length, get_or, refl, subst, append_assoc, append-nil, add-zero, arith}
 use mathlib.Core.Logic.Iff.{symm as flip}
-use Rattle.std.proofs.lemmas.Bool.{cases_Bool, cases_lt, cond_both}
-use Rattle.std.proofs.lemmas.Bool.Decides.{same_from_decides, not_from_Decides}
+use Rattle.std.proofs.Math.Nat.{add-sub_of_le}
+use Rattle.std.proofs.lemmas.Bool.{cond_both, false_from_ne_true}
+use Rattle.std.proofs.lemmas.Bool.Decides.{same_from_decides}
 use Rattle.regular.specs.Language.{Regex, Word, Tail, Inhabited}
 use Rattle.regular.specs.Positions.{accepted, tailed}
 use Rattle.regular.specs.Matches.{IsMatch, between, starting, ending, listed, reach, Precedes, Exactly, ListsAreExact}
-use Rattle.regular.proofs.Iff.{◌⨾◌, sum}
+use Rattle.regular.proofs.Iff.{◌⨾◌}
 use Rattle.regular.proofs.Reading.{words_accepted}
 use Rattle.regular.proofs.Tails.{tails_tailed, tails_of_tails}
 use Rattle.regular.proofs.Places.{between_split}
 use Rattle.regular.proofs.Orders.{In, Sorted, in_append, at_in, in_at, sorted_append, sorted_rising, rising_sorted, same_sorted}
 
 pub tailed_not : (r : Regex) (w : List ℕ) → Inhabited r → (Tail r w → ⊥) → tailed r w ≡ false
-tailed_not r w i h = ⊎_elim (λ e. absurd (h ((tails_tailed r i w).0 e))) (λ e. e) (cases_Bool (tailed r w))
+tailed_not r w i h = false_from_ne_true (tailed r w) (λ e. h ((tails_tailed r i w).0 e))
 
 -- an answer that agrees with the language is the decider's
 pub flag : (r : Regex) (w : List ℕ) (b : Bool) → (Word r w → b ≡ true) → (b ≡ true → Word r w) → b ≡ accepted r w
 flag r w b word only = same_from_decides b (accepted r w) (only, word) (words_accepted r w)
 
 precedes_one_way : (p q : ℕ × ℕ) → Precedes p q → Precedes q p → ⊥
-precedes_one_way p q (inl a) (inl b) = omega arith
-precedes_one_way p q (inl a) (inr b) = omega arith
-precedes_one_way p q (inr a) (inl b) = omega arith
-precedes_one_way p q (inr a) (inr b) = omega arith
+precedes_one_way p q a b = grind arith
 
 module _ (r : Regex) (t : List ℕ) (e : ℕ) where
-  -- one start more, which either begins a word or does not
-  by_start : (n : ℕ) (P : List (ℕ × ℕ) → Type 0) → (Word r (between t n e) → P ((n, e) ∷ starting r t e n)) → ((Word r (between t n e) → ⊥) → P (starting r t e n)) → P (starting r t e (suc n))
-  by_start n P with_it without =
-      let w : List ℕ = between t n e in
-      cond_both (accepted r w) ((n, e) ∷ starting r t e n) (starting r t e n) P
-      (λ h. with_it ((words_accepted r w).0 h))
-      (λ h. without (not_from_Decides (accepted r w) (words_accepted r w) h))
-
   pub in_starting : (n : ℕ) (p : ℕ × ℕ) → In p (starting r t e n) ↔ ((p.1 ≡ e) × (p.0 < n) × Word r (between t p.0 e))
-  in_starting n p = (to n, λ (end, l, w). subst (λ x. In (p.0, x) (starting r t e n)) (sym end) (from n l w))
-    where
-      Below : ℕ → Type 0
-      Below n = (p.1 ≡ e) × (p.0 < n) × Word r (between t p.0 e)
-
-      to : (n : ℕ) → In p (starting r t e n) → Below n
-      to zero = λ h. absurd h
-      to (suc n) =
-          let more : In p (starting r t e n) → Below (suc n) = λ i. let (end, l, w) = to n i in (end, omega arith, w) in
-          by_start n (λ l. In p l → Below (suc n)) (λ w. ⊎_elim (λ is. subst (λ (q : ℕ × ℕ). (q.1 ≡ e) × (q.0 < suc n) × Word r (between t q.0 e)) is (refl, omega arith, w)) more) (λ _. more)
-
-      from : (n : ℕ) → p.0 < n → Word r (between t p.0 e) → In (p.0, e) (starting r t e n)
-      from zero l w = absurd (omega arith)
-      from (suc n) l w =
-          ⊎_elim
-          (λ less. by_start n (In (p.0, e)) (λ _. inr (from n less w)) (λ _. from n less w))
-          (λ more. let is : p.0 ≡ n = omega arith in by_start n (In (p.0, e)) (λ _. inl (ap (λ x. (x, e)) (sym is))) (λ no_word. absurd (no_word (subst (λ x. Word r (between t x e)) is w))))
-          (cases_lt p.0 n)
+  in_starting zero (s, f) = (absurd, λ (_, l, _). absurd (omega arith))
+  in_starting (suc n) (s, f) = grind (arith, in_starting n (s, f), words_accepted r (between t n e))
 
   pub starting_none : (n : ℕ) → ((m : ℕ) → m < n → Word r (between t m e) → ⊥) → starting r t e n ≡ []
   starting_none zero h = refl
-  starting_none (suc n) h = by_start n (λ l. l ≡ []) (λ w. absurd (h n (omega arith) w)) (λ _. starting_none n (λ m l. h m (omega arith)))
+  starting_none (suc n) h = grind (arith, starting_none n (λ m l. h m (omega arith)), h n, words_accepted r (between t n e))
 
   -- a walk stops where there is no tail
   pub starting_dead : (n : ℕ) → 0 < n → n ≤ e → (Tail r (between t (n - 1) e) → ⊥) → starting r t e n ≡ []
@@ -65,57 +39,36 @@ module _ (r : Regex) (t : List ℕ) (e : ℕ) where
 
   pub starting_left : (n : ℕ) → 0 < n → starting r t e n ≡ cond (accepted r (between t (n - 1) e)) ((n - 1, e) ∷ starting r t e (n - 1)) (starting r t e (n - 1))
   starting_left zero pos = absurd (omega arith)
-  starting_left (suc n) pos =
-      let h : n ≡ suc n - 1 = omega arith in
-      ap (λ m. cond (accepted r (between t m e)) ((m, e) ∷ starting r t e m) (starting r t e m)) h
+  starting_left (suc n) pos = let h : suc n - 1 ≡ n = omega arith in rw h
 
   pub reach_left : (n : ℕ) → 0 < n → reach r t e n ≡ cond (tailed r (between t (n - 1) e)) (reach r t e (n - 1)) n
   reach_left zero pos = absurd (omega arith)
-  reach_left (suc n) pos =
-      let h : n ≡ suc n - 1 = omega arith in
-      ap (λ m. cond (tailed r (between t m e)) (reach r t e m) (suc n)) h
+  reach_left (suc n) pos = let h : suc n - 1 ≡ n = omega arith in rw h
 
   pub starting_sorted : (n : ℕ) → Sorted Precedes (starting r t e n)
   starting_sorted zero = tt
   starting_sorted (suc n) =
-      by_start n (Sorted Precedes)
-      (λ _. (λ p i. let (end, l, _) = (in_starting n p).0 i in inr (sym end, l), starting_sorted n))
+      cond_both (accepted r (between t n e)) ((n, e) ∷ starting r t e n) (starting r t e n) (Sorted Precedes)
+      (λ _. (λ p i. grind (arith, (in_starting n p).0 i), starting_sorted n))
       (λ _. starting_sorted n)
 
   starting_few : (n : ℕ) → length (starting r t e n) ≤ n
   starting_few zero = omega arith
-  starting_few (suc n) = let ih = starting_few n in by_start n (λ l. length l ≤ suc n) (λ _. omega arith) (λ _. omega arith)
+  starting_few (suc n) = grind (arith, starting_few n)
 
 module _ (r : Regex) (t : List ℕ) where
   pub ending_few : (e : ℕ) → length (ending r t e) ≤ e + 1
   ending_few e = omega (arith, starting_few r t e (suc e))
 
   pub in_listed : (f n : ℕ) (p : ℕ × ℕ) → In p (listed r t f n) ↔ ((f ≤ p.1) × (p.1 < f + n) × (p.0 ≤ p.1) × Word r (between t p.0 p.1))
-  in_listed f zero p = (λ h. absurd h, λ (a, b, _, _). absurd (omega arith))
-  in_listed f (suc n) p = in_append p (listed r t f n) (ending r t (f + n)) ⨾ sum (in_listed f n p) (in_starting r t (f + n) (suc (f + n)) p) ⨾ (to, from)
-    where
-      Here : ℕ → Type 0
-      Here n = (f ≤ p.1) × (p.1 < f + n) × (p.0 ≤ p.1) × Word r (between t p.0 p.1)
-
-      Last : Type 0
-      Last = (p.1 ≡ f + n) × (p.0 < suc (f + n)) × Word r (between t p.0 (f + n))
-
-      to : Here n ⊎ Last → Here (suc n)
-      to (inl (a, b, c, w)) = (a, omega arith, c, w)
-      to (inr (is, l, w)) = (omega arith, omega arith, omega arith, rw is w)
-
-      from : Here (suc n) → Here n ⊎ Last
-      from (a, b, c, w) =
-          ⊎_elim
-          (λ less. inl (a, less, c, w))
-          (λ more. let is : p.1 ≡ f + n = omega arith in inr (is, omega arith, rw (← is) w))
-          (cases_lt p.1 (f + n))
+  in_listed f zero p = grind arith
+  in_listed f (suc n) (s, e) = grind (arith, in_append (s, e) (listed r t f n) (ending r t (f + n)), in_listed f n (s, e), in_starting r t (f + n) (suc (f + n)) (s, e))
 
   listed_sorted : (f n : ℕ) → Sorted Precedes (listed r t f n)
   listed_sorted f zero = tt
   listed_sorted f (suc n) =
       sorted_append Precedes (listed r t f n) (ending r t (f + n)) (listed_sorted f n) (starting_sorted r t (f + n) (suc (f + n)))
-      (λ p q i j. let (_, a, _, _) = (in_listed f n p).0 i in let (b, _, _) = (in_starting r t (f + n) (suc (f + n)) q).0 j in inl (omega arith))
+      (λ p q i j. grind (arith, (in_listed f n p).0 i, (in_starting r t (f + n) (suc (f + n)) q).0 j))
 
 -- Exactly, by what stands in the list
 module _ (r : Regex) (t : List ℕ) (from next : ℕ) where
@@ -148,32 +101,25 @@ module _ (r : Regex) (t : List ℕ) where
       (λ p. in_listed r t from n p ⨾ (λ (a, b, c, w). (record { ordered = c; inside = omega arith; word = w }, a, b), λ (m, a, b). (a, b, m.ordered, m.word)))
 
   pub listed_exactly : (from next : ℕ) → from ≤ next → next ≤ length t + 1 → Exactly r t from next (listed r t from (next - from))
-  listed_exactly from next le within =
-      let e : from + (next - from) ≡ next = omega arith in
-      subst (λ n. Exactly r t from n (listed r t from (next - from))) e (listed_range from (next - from) (omega arith))
+  listed_exactly from next le within = rw (add-sub_of_le le) at (listed_range from (next - from) (omega arith))
 
   pub ending_exactly : (e : ℕ) → e ≤ length t → Exactly r t e (e + 1) (ending r t e)
-  ending_exactly e within =
-      let z : e + 0 ≡ e = omega arith in
-      subst (λ n. Exactly r t e (e + 1) (ending r t n)) z (listed_range e 1 (omega arith))
+  ending_exactly e within = subst (λ n. Exactly r t e (e + 1) (ending r t n)) (add-zero e) (listed_range e 1 (omega arith))
 
   -- lists in a row
   pub listed_append : (f n m : ℕ) → listed r t f n ++ listed r t (f + n) m ≡ listed r t f (n + m)
-  listed_append f n zero = append-nil (listed r t f n) ∙ ap (listed r t f) (let h : n ≡ n + 0 = omega arith in h)
+  listed_append f n zero = rw (append-nil, add-zero)
   listed_append f n (suc m) =
-      let h : (f + n) + m ≡ f + (n + m) = omega arith in
-      let k : suc (n + m) ≡ n + suc m = omega arith in
-      sym (append_assoc (listed r t f n) (listed r t (f + n) m) (ending r t ((f + n) + m)))
-      ∙ ap (λ l. l ++ ending r t ((f + n) + m)) (listed_append f n m)
-      ∙ ap (λ e. listed r t f (n + m) ++ ending r t e) h
-      ∙ ap (listed r t f) k
+      let h : f + n + m ≡ f + (n + m) = omega arith in
+      let k : n + suc m ≡ suc (n + m) = omega arith in
+      cc (listed_append f n m, append_assoc (listed r t f n) (listed r t (f + n) m) (ending r t (f + n + m)))
 
   -- from one place to another, and on to a third
   pub listed_on : (a b c : ℕ) → a ≤ b → b ≤ c → listed r t a (b - a) ++ listed r t b (c - b) ≡ listed r t a (c - a)
   listed_on a b c p q =
-      let e : b ≡ a + (b - a) = omega arith in
+      let e : a + (b - a) ≡ b = omega arith in
       let f : (b - a) + (c - b) ≡ c - a = omega arith in
-      ap (λ x. listed r t a (b - a) ++ listed r t x (c - b)) e ∙ listed_append a (b - a) (c - b) ∙ ap (listed r t a) f
+      rw (e, f) at (listed_append a (b - a) (c - b))
 
   -- where nothing ends
   pub listed_none : (f n : ℕ) → ((q : ℕ) → f ≤ q → q < f + n → ending r t q ≡ []) → listed r t f n ≡ []
@@ -183,13 +129,8 @@ module _ (r : Regex) (t : List ℕ) where
   -- one place at which something ends, and then none
   pub listed_one : (f n : ℕ) → ((q : ℕ) → f < q → q < f + (n + 1) → ending r t q ≡ []) → listed r t f (n + 1) ≡ ending r t f
   listed_one f n h =
-      let e : n + 1 ≡ 1 + n = omega arith in
-      let z : f + 0 ≡ f = omega arith in
-      ap (listed r t f) e
-      ∙ sym (listed_append f 1 n)
-      ∙ ap (λ l. ending r t (f + 0) ++ l) (listed_none (f + 1) n (λ q a b. h q (omega arith) (omega arith)))
-      ∙ append-nil (ending r t (f + 0))
-      ∙ ap (ending r t) z
+      let e : 1 + n ≡ n + 1 = omega arith in
+      cc (add-zero f, listed_append f 1 n, listed_none (f + 1) n (λ q a b. h q (omega arith) (omega arith)), append-nil (ending r t (f + 0)))
 
 pub every_list_is_exact : ListsAreExact
 every_list_is_exact r t = record { place = ending_exactly r t; range = listed_range r t; only = exactly_one r t }

@@ -1,11 +1,11 @@
 -- The words of positions say what the positions' functions say. Assumes nothing.
-use Rattle.std.proofs.Common.{◌≡◌, ℕ, ◌+◌, Bool, true, ◌↔◌, List, [], ◌∷◌, sym, refl, ◌∙◌, subst, ⊎_elim, zero-add, arith}
+use Rattle.std.proofs.Common.{◌≡◌, ℕ, ◌+◌, Bool, true, ◌↔◌, List, [], ◌∷◌, sym, refl, ◌∙◌, subst, zero-add, arith}
 use mathlib.Core.Logic.Iff.{symm as flip}
 use Rattle.std.proofs.lemmas.Bool.{eq-eqb, eqb-true}
 use Rattle.regular.specs.Language.{Regex, one, join, either, star, plus, maybe, Word, Tail, Inhabited}
 use Rattle.regular.specs.Positions.{size, nullable, holds, begins, ends, before}
 use Rattle.regular.specs.Numbered.{numbered, CanBegin, CanEnd, CanPrecede, PositionsMeanWords}
-use Rattle.regular.proofs.Iff.{◌⨾◌, or_true, and_true}
+use Rattle.regular.proofs.Iff.{◌⨾◌}
 use Rattle.regular.proofs.Ranges.{begins_in, before_in}
 use Rattle.regular.proofs.Written.{length_sets, holds_written, holds_out}
 use Rattle.regular.proofs.Rests.{Rest, From, Among, word_nil, rest_nil, rest_in, word_cons, rest_cons}
@@ -20,55 +20,22 @@ inhabited (star a) i = inhabited a i
 inhabited (plus a) i = inhabited a i
 inhabited (maybe a) i = inhabited a i
 
--- nothing but `holds` looks at the sets
-same_size : (r : Regex) (i : ℕ) → size (numbered r i) ≡ size r
-same_size (one s) i = refl
-same_size (join a b) i = rw (same_size a i, same_size b (i + size a))
-same_size (either a b) i = rw (same_size a i, same_size b (i + size a))
-same_size (star a) i = same_size a i
-same_size (plus a) i = same_size a i
-same_size (maybe a) i = same_size a i
+-- nothing but `holds` looks at the sets, and a position holds its own number ..
+record Same (r : Regex) (i : ℕ) : Type 0 where
+  count : size (numbered r i) ≡ size r
+  empty : nullable (numbered r i) ≡ nullable r
+  begin : (q : ℕ) → begins (numbered r i) i q ≡ begins r i q
+  end : (q : ℕ) → ends (numbered r i) i q ≡ ends r i q
+  precede : (q p : ℕ) → before (numbered r i) i q p ≡ before r i q p
+  own : (q c : ℕ) → holds (numbered r i) i q c ≡ true → q ≡ c
 
-same_nullable : (r : Regex) (i : ℕ) → nullable (numbered r i) ≡ nullable r
-same_nullable (one s) i = refl
-same_nullable (join a b) i = rw (same_nullable a i, same_nullable b (i + size a))
-same_nullable (either a b) i = rw (same_nullable a i, same_nullable b (i + size a))
-same_nullable (star a) i = refl
-same_nullable (plus a) i = same_nullable a i
-same_nullable (maybe a) i = refl
-
-same_begins : (r : Regex) (i q : ℕ) → begins (numbered r i) i q ≡ begins r i q
-same_begins (one s) i q = refl
-same_begins (join a b) i q = rw (same_size a i, same_nullable a i, same_begins a i q, same_begins b (i + size a) q)
-same_begins (either a b) i q = rw (same_size a i, same_begins a i q, same_begins b (i + size a) q)
-same_begins (star a) i q = same_begins a i q
-same_begins (plus a) i q = same_begins a i q
-same_begins (maybe a) i q = same_begins a i q
-
-same_ends : (r : Regex) (i q : ℕ) → ends (numbered r i) i q ≡ ends r i q
-same_ends (one s) i q = refl
-same_ends (join a b) i q = rw (same_size a i, same_nullable b (i + size a), same_ends a i q, same_ends b (i + size a) q)
-same_ends (either a b) i q = rw (same_size a i, same_ends a i q, same_ends b (i + size a) q)
-same_ends (star a) i q = same_ends a i q
-same_ends (plus a) i q = same_ends a i q
-same_ends (maybe a) i q = same_ends a i q
-
-same_before : (r : Regex) (i q p : ℕ) → before (numbered r i) i q p ≡ before r i q p
-same_before (one s) i q p = refl
-same_before (join a b) i q p = rw (same_size a i, same_before a i q p, same_ends a i q, same_begins b (i + size a) p, same_before b (i + size a) q p)
-same_before (either a b) i q p = rw (same_size a i, same_before a i q p, same_before b (i + size a) q p)
-same_before (star a) i q p = rw (same_before a i q p, same_ends a i q, same_begins a i p)
-same_before (plus a) i q p = rw (same_before a i q p, same_ends a i q, same_begins a i p)
-same_before (maybe a) i q p = same_before a i q p
-
--- a position holds its own number ..
-holds_own : (r : Regex) (i q c : ℕ) → holds (numbered r i) i q c ≡ true → q ≡ c
-holds_own (one s) i q c h = let (k, l) = and_true.0 h in eqb-true q (i + 1) k ∙ eqb-true (i + 1) c l
-holds_own (join a b) i q c h = ⊎_elim (holds_own a i q c) (rw (same_size a i) (holds_own b (i + size a) q c)) (or_true.0 h)
-holds_own (either a b) i q c h = ⊎_elim (holds_own a i q c) (rw (same_size a i) (holds_own b (i + size a) q c)) (or_true.0 h)
-holds_own (star a) i q c h = holds_own a i q c h
-holds_own (plus a) i q c h = holds_own a i q c h
-holds_own (maybe a) i q c h = holds_own a i q c h
+same : (r : Regex) (i : ℕ) → Same r i
+same (one s) i = grind (arith, eqb-true)
+same (join a b) i = grind (arith, same a i, same b (i + size a))
+same (either a b) i = grind (arith, same a i, same b (i + size a))
+same (star a) i = grind (arith, same a i)
+same (plus a) i = grind (arith, same a i)
+same (maybe a) i = grind (arith, same a i)
 
 module _ (r : Regex) where
   abbrev n : Regex
@@ -80,8 +47,8 @@ module _ (r : Regex) where
   -- .. and is the only one that does
   from_own : (p q : ℕ) (v : List ℕ) → From n 0 p q v ↔ ((p ≡ q) × Rest n 0 p v)
   from_own p q v = (
-    λ (h, k). (holds_own r 0 p q h, k),
-    λ (e, k). let (c, h) = held n full 0 p (rest_in n 0 p v k) in (subst (λ z. holds n 0 p z ≡ true) (sym (holds_own r 0 p c h) ∙ e) h, k),
+    λ (h, k). ((same r 0).own p q h, k),
+    λ (e, k). let (c, h) = held n full 0 p (rest_in n 0 p v k) in (subst (λ z. holds n 0 p z ≡ true) (sym ((same r 0).own p c h) ∙ e) h, k),
   )
 
   among_own : {S : ℕ → Bool} (q : ℕ) (v : List ℕ) → Among S n 0 q v ↔ ((S q ≡ true) × Rest n 0 q v)
@@ -116,8 +83,8 @@ every_position_means_words r = record {
   count = length_sets r;
   hold = λ k c. rw zero-add at (holds_written r 0 c k);
   start = λ c. holds_out r 0 0 c (λ h. omega arith);
-  begin = λ q. rw (← same_begins r 0 q) (begin_own r q);
-  end = λ q. rw (← same_ends r 0 q) (end_own r q);
-  precede = λ q p. rw (← same_before r 0 q p) (precede_own r q p);
+  begin = λ q. rw (← (same r 0).begin q) (begin_own r q);
+  end = λ q. rw (← (same r 0).end q) (end_own r q);
+  precede = λ q p. rw (← (same r 0).precede q p) (precede_own r q p);
   empty = word_nil r;
 }

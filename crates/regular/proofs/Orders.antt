@@ -1,8 +1,5 @@
 -- Lists in an order: what stands in them, and that this determines the list. Assumes nothing.
-use Rattle.std.proofs.Common.{◌≡◌, ℕ, zero, suc, ◌<◌, ◌⊎◌, ◌↔◌, List, [], ◌∷◌, ◌++◌, length, get_or, sym, refl, ◌∙◌, subst, inl, inr, ⊎_elim, arith}
-use mathlib.Core.Logic.Iff.{rfl as same}
-use mathlib.Core.Logic.Iff.{symm as flip}
-use Rattle.regular.proofs.Iff.{◌⨾◌, sum, sum_assoc}
+use Rattle.std.proofs.Common.{◌≡◌, ℕ, zero, suc, ◌<◌, ◌⊎◌, ◌↔◌, List, [], ◌∷◌, ◌++◌, length, get_or, refl, subst, inl, inr, ⊎_elim, arith}
 
 -- x stands in the list
 abbrev pub In : {A : Type 0} → A → List A → Type 0
@@ -12,7 +9,7 @@ In x (y ∷ ys) = (y ≡ x) ⊎ In x ys
 module _ {A : Type 0} where
   pub in_append : (x : A) (xs ys : List A) → In x (xs ++ ys) ↔ (In x xs ⊎ In x ys)
   in_append x [] ys = (inr, ⊎_elim (λ h. absurd h) (λ h. h))
-  in_append x (y ∷ xs) ys = sum same (in_append x xs ys) ⨾ flip sum_assoc
+  in_append x (y ∷ xs) ys = grind (arith, in_append x xs ys)
 
   pub at_in : (xs : List A) (i : ℕ) (d : A) → i < length xs → In (get_or xs i d) xs
   at_in [] i d h = absurd (omega arith)
@@ -36,10 +33,7 @@ module _ {A : Type 0} (R : A → A → Type 0) where
 
   pub sorted_append : (xs ys : List A) → Sorted xs → Sorted ys → ((x y : A) → In x xs → In y ys → R x y) → Sorted (xs ++ ys)
   sorted_append [] ys a b h = b
-  sorted_append (x ∷ xs) ys (before, a) b h = (
-    λ y i. ⊎_elim (before y) (h x y (inl refl)) ((in_append y xs ys).0 i),
-    sorted_append xs ys a b (λ u v i. h u v (inr i)),
-  )
+  sorted_append (x ∷ xs) ys (before, a) b h = (λ y i. ⊎_elim (before y) (h x y (inl refl)) ((in_append y xs ys).0 i), sorted_append xs ys a b (λ u v i. h u v (inr i)))
 
   pub sorted_rising : (xs : List A) (d : A) → Sorted xs → Rising xs d
   sorted_rising [] d s i j a b = absurd (omega arith)
@@ -55,15 +49,11 @@ module _ {A : Type 0} (R : A → A → Type 0) where
   )
 
   module _ (one_way : (x y : A) → R x y → R y x → ⊥) where
-    -- what follows x in one list follows it in the other
-    follows : (x y : A) (xs ys : List A) → Sorted (x ∷ xs) → x ≡ y → ((z : A) → In z (x ∷ xs) → In z (y ∷ ys)) → (z : A) → In z xs → In z ys
-    follows x y xs ys s e f z i = ⊎_elim (λ k. let h = subst (λ w. R w z) (e ∙ k) (s.0 z i) in absurd (one_way z z h h)) (λ j. j) (f z (inr i))
-
     pub same_sorted : (xs ys : List A) → Sorted xs → Sorted ys → ((z : A) → In z xs ↔ In z ys) → xs ≡ ys
     same_sorted [] [] a b f = refl
     same_sorted [] (y ∷ ys) a b f = absurd ((f y).1 (inl refl))
     same_sorted (x ∷ xs) [] a b f = absurd ((f x).0 (inl refl))
     same_sorted (x ∷ xs) (y ∷ ys) a b f =
-        let heads : x ≡ y = ⊎_elim sym (λ i. ⊎_elim (λ e. e) (λ j. absurd (one_way x y (a.0 y j) (b.0 x i))) ((f y).1 (inl refl))) ((f x).0 (inl refl)) in
-        let tails : xs ≡ ys = same_sorted xs ys a.1 b.1 (λ z. (follows x y xs ys a heads (λ w. (f w).0) z, follows y x ys xs b (sym heads) (λ w. (f w).1) z)) in
+        let heads : x ≡ y = grind (arith, one_way x y, a.0 y, b.0 x, (f y).1 (inl refl), (f x).0 (inl refl)) in
+        let tails : xs ≡ ys = same_sorted xs ys a.1 b.1 (λ z. grind (arith, one_way z z, a.0 z, b.0 z, f z)) in
         cc

@@ -16,7 +16,7 @@ between_cons t s e lt le =
 pub between_left : (t : List ℕ) (s e : ℕ) → 0 < s → s ≤ e → e ≤ length t → between t (s - 1) e ≡ get_or t (s - 1) 0 ∷ between t s e
 between_left t s e pos le in_text =
     let h : s - 1 + 1 ≡ s = omega arith in
-    between_cons t (s - 1) e (omega arith) in_text ∙ ap (λ n. get_or t (s - 1) 0 ∷ between t n e) h
+    rw h at (between_cons t (s - 1) e (omega arith) in_text)
 
 pub length_between : (t : List ℕ) (s e : ℕ) → s ≤ e → e ≤ length t → length (between t s e) ≡ e - s
 length_between t s e a b = simp (length-take, length-drop) (omega arith)

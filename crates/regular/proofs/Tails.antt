@@ -17,19 +17,15 @@ shortest_known (one s) (c, h) = record { reached = (c ∷ [], (c, refl, h), refl
 shortest_known (join a b) (h, k) =
     let A = shortest_known a h in
     let B = shortest_known b k in
-    let (u, p, m) = A.reached in
-    let (v, q, n) = B.reached in
     record {
-      reached = (u ++ v, (u, v, refl, p, q), omega (arith, length-append u v));
+      reached = let (u, p, m) = A.reached in let (v, q, n) = B.reached in (u ++ v, (u, v, refl, p, q), omega (arith, length-append u v));
       least = λ w (x, y, e, p, q). omega (arith, ap length e, length-append x y, A.least x p, B.least y q);
     }
 shortest_known (either a b) (h, k) =
     let A = shortest_known a h in
     let B = shortest_known b k in
-    let (u, p, m) = A.reached in
-    let (v, q, n) = B.reached in
     record {
-      reached = ⊎_elim (λ l. (u, inl p, omega arith)) (λ l. (v, inr q, omega arith)) (cases_lt (shortest a) (shortest b));
+      reached = let (u, p, m) = A.reached in let (v, q, n) = B.reached in ⊎_elim (λ l. (u, inl p, omega arith)) (λ l. (v, inr q, omega arith)) (cases_lt (shortest a) (shortest b));
       least = λ w. ⊎_elim (λ p. omega (arith, A.least w p)) (λ q. omega (arith, B.least w q));
     }
 shortest_known (star a) h = record { reached = ([], none refl, refl); least = λ w _. omega arith }

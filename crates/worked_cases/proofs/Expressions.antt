@@ -1,5 +1,5 @@
 -- The trees of the worked expressions, and what they mean. Assumes nothing.
-use Rattle.std.proofs.Common.{◌≡◌, ℕ, Bool, true, false, ◌&&◌, eqb, leb, [], ◌∷◌, sym, refl, ap, ◌∙◌, ap₂, lit≤}
+use Rattle.std.proofs.Common.{◌≡◌, ℕ, true, false, ◌&&◌, eqb, leb, [], ◌∷◌, refl, ap, ap₂, arith, lit≤}
 use mathlib.Core.Path.{fun_ext}
 use Rattle.std.proofs.lemmas.Bool.{eqb-true}
 use Rattle.regular.specs.Language.{one, join, plus, star}
@@ -9,15 +9,7 @@ use Rattle.worked_cases.specs.WorkedCases.{letter, ReadAs, abc, aba, any_a, one_
 
 -- a set of one code that the mode has
 one_code : (top a : ℕ) → leb a top ≡ true → one (λ c. leb c top && eqb a c) ≡ letter a
-one_code top a l = ap one (fun_ext same)
-  where
-    both : (x y : Bool) → (y ≡ true → x ≡ true) → x && y ≡ y
-    both true y h = refl
-    both false true h = h refl
-    both false false h = refl
-
-    same : (c : ℕ) → leb c top && eqb a c ≡ eqb a c
-    same c = both (leb c top) (eqb a c) (λ e. ap (λ d. leb d top) (sym (eqb-true a c e)) ∙ l)
+one_code top a l = ap one (fun_ext (λ c. grind (arith, eqb-true)))
 
 -- a plain byte, and two digits in brackets, with a mark
 byte : (a : ℕ) → special a ≡ false → Mark → Tree Bytes item

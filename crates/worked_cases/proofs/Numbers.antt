@@ -1,8 +1,8 @@
 -- The numbers of positions by computation, for an expression with few tails in which all pieces of a position have one number. Assumes nothing.
-use Rattle.std.proofs.Common.{◌≡◌, ℕ, zero, suc, ◌+◌, ◌<◌, ◌≤◌, Bool, true, false, cond, ◌&&◌, eqb, List, [], ◌∷◌, length, get_or, replicate, sym, refl, ap, ◌∙◌, subst, ⊎_elim, arith}
+use Rattle.std.proofs.Common.{◌≡◌, ℕ, zero, suc, ◌+◌, ◌<◌, ◌≤◌, Bool, true, false, cond, ◌&&◌, eqb, List, [], ◌∷◌, length, get_or, replicate, sym, refl, ◌∙◌, subst, arith}
 use mathlib.Core.Logic.Iff.{rfl as same}
 use lib.ListN.{get_or-replicate}
-use Rattle.std.proofs.lemmas.Bool.{and_parts, eq-eqb, eqb-true, cond-true, false≢true}
+use Rattle.std.proofs.lemmas.Bool.{eqb-true}
 use Rattle.std.proofs.lemmas.Bool.Decides.{Decides-below_and}
 use Rattle.regular.specs.Language.{Regex, Tail, Shortest, Inhabited}
 use Rattle.regular.specs.Positions.{size, reached}
@@ -29,8 +29,7 @@ is_number t infinite = false
 is_number t (finite n) = eqb n t
 
 number_is : (t : ℕ) (d : Distance) → is_number t d ≡ true → d ≡ finite t
-number_is t infinite e = absurd (false≢true e)
-number_is t (finite n) e = ap finite (eqb-true n t e)
+number_is t d e = grind (arith, eqb-true)
 
 -- the words of length n have the number t
 abbrev even : ℕ → (List ℕ → Distance) → ℕ → List (List ℕ) → Bool
@@ -39,12 +38,7 @@ even n f t (w ∷ ws) = cond (eqb (length w) n) (is_number t (f w)) true && even
 
 even_is : (n : ℕ) (f : List ℕ → Distance) (t : ℕ) (ws : List (List ℕ)) → even n f t ws ≡ true → (w : List ℕ) → Member w ws → length w ≡ n → f w ≡ finite t
 even_is n f t [] e w mem long = absurd mem
-even_is n f t (x ∷ ws) e w mem long =
-    let (first, rest) = and_parts (cond (eqb (length x) n) (is_number t (f x)) true) (even n f t ws) e in
-    ⊎_elim
-    (λ is. ap f is ∙ number_is t (f x) (sym (cond-true (eqb (length x) n) (is_number t (f x)) true (eq-eqb (length x) n (ap length (sym is) ∙ long))) ∙ first))
-    (λ further. even_is n f t ws rest w further long)
-    mem
+even_is n f t (x ∷ ws) e w mem long = grind (arith, number_is t (f x), even_is n f t ws)
 
 module _ (r : Regex) (h : Inhabited r) (codes : ℕ) (W : Within codes r) (m : ℕ) (S : Shortest r m) where
   abbrev found : List (List ℕ)

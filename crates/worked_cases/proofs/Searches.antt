@@ -1,12 +1,11 @@
 -- A run over a whole text, from the shifts at the tails alone, whatever room there is beyond the matches. Assumes nothing.
-use Rattle.std.proofs.Common.{◌≡◌, ℕ, zero, suc, ◌+◌, ◌-◌, ◌≤◌, min, Bool, true, false, cond, ◌||◌, List, length, sym, refl, ap, ◌∙◌, ap₂, subst₂, arith, length-append}
-use Rattle.std.proofs.lemmas.Bool.{ltb-false, le-ltb}
+use Rattle.std.proofs.Common.{◌≡◌, ℕ, zero, suc, ◌+◌, ◌-◌, ◌≤◌, min, cond, List, length, sym, refl, ap, ◌∙◌, ap₂, subst₂, zero-add, arith, length-append}
 use Rattle.regular.specs.Language.{Regex, Tail, Inhabited}
 use Rattle.regular.specs.Matches.{ending, listed, longest, Exactly}
 use Rattle.regular.proofs.Endings.{listed_append, listed_range}
 use Rattle.regular.proofs.Longest.{longest_tail}
-use Rattle.search.specs.Rules.{finished, crowded, reading}
-use Rattle.search.specs.Reckoning.{Reckoned, begun, filled_by, due, granted, granted_all, numbers_by}
+use Rattle.search.specs.Rules.{finished, reading}
+use Rattle.search.specs.Reckoning.{Reckoned, begun, due, granted, granted_all, numbers_by}
 use Rattle.search.specs.declared.numbers.Numbers.{Numbers}
 use Rattle.worked_cases.specs.WorkedCases.{Searched}
 
@@ -17,27 +16,12 @@ module _ (r : Regex) (t : List ℕ) where
   -- up to a place, and there, are no more matches than in all
   no_more : (n : ℕ) → n ≤ length t → length (listed r t 0 n) + length (ending r t n) ≤ length all
   no_more n l =
-      let here : 0 + n ≡ n = omega arith in
       let whole : suc n + (length t - n) ≡ length t + 1 = omega arith in
-      omega (
-        arith,
-        ap (λ x. length (ending r t x)) here,
-        length-append (listed r t 0 n) (ending r t (0 + n)),
-        length-append (listed r t 0 (suc n)) (listed r t (0 + suc n) (length t - n)),
-        ap length (listed_append r t 0 (suc n) (length t - n)),
-        ap (λ x. length (listed r t 0 x)) whole,
-      )
+      grind (arith, zero-add n, zero-add (suc n), length-append, listed_append r t 0 (suc n) (length t - n))
 
   -- with room for all, a step from the opening on is refused only at the end
   due_at_end : (room : ℕ) (s : ℕ → List ℕ → ℕ) → length all ≤ room → (k : Reckoned) → k.from ≡ 0 → due r t room s k ≡ finished t k.next
-  due_at_end room s fits k opened = go (finished t k.next) refl
-    where
-      go : (b : Bool) → finished t k.next ≡ b → b || crowded r t (room - filled_by r t room s k) k.next ≡ b
-      go true e = refl
-      go false e =
-          let z : k.next - k.from ≡ k.next = omega arith in
-          let few = ap₂ (λ f n. length (listed r t f n)) opened z in
-          le-ltb (room - filled_by r t room s k) (length (ending r t k.next)) (omega (arith, no_more k.next (ltb-false (length t) k.next e)))
+  due_at_end room s fits k opened = grind (arith, no_more k.next)
 
   module _ (i : Inhabited r) (g h : List ℕ → ℕ) (same : (v : List ℕ) → Tail r v → h v ≡ g v) (room : ℕ) (fits : length all ≤ room) where
     granted_same : (k : Reckoned) → granted r t room (λ _. h) 0 k ≡ granted r t (length all) (λ _. g) 0 k
