@@ -36,7 +36,7 @@ impl Listing {
     }
 }
 
-/// A line `start end` for each match, and then `matches 2 walks 7 reads 12`.
+/// A line `start end` for each match, and then `matches 2 walks 7 reads 13`.
 impl fmt::Display for Listing {
     ghost output = { λ listing. Some (listing_text listing) };
 

@@ -10,6 +10,11 @@ pub record Splits (b : ℕ) (bytes front rest : List ℕ) : Type 0 where
   pub whole : bytes ≡ front ++ (b ∷ rest)
   pub first : Lacks b front
 
+-- at the first line feed, or with nothing behind where there is none
+pub data Parted (bytes line rest : List ℕ) : Type 0 where
+  at_feed : Splits 10 bytes line rest → Parted bytes line rest
+  no_feed : Lacks 10 line → bytes ≡ line → rest ≡ [] → Parted bytes line rest
+
 -- the bytes before the first line feed, and those behind it
 abbrev pub line : List ℕ → List ℕ
 line [] = []

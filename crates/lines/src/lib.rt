@@ -3,7 +3,7 @@
 #![tactic(auto)]
 
 ghost use Rattle.std.specs.Prelude.{◌≡◌, ℕ, ◌≤◌, length, MatchOption};
-ghost use Rattle.lines.specs.Lines.{Lacks, Splits, line, behind};
+ghost use Rattle.lines.specs.Lines.{Lacks, Splits, Parted, line, behind};
 ghost use Rattle.lines.specs.Numbers.{Decimal};
 
 use memchr::memchr;
@@ -19,6 +19,8 @@ pub fn split_once(bytes: &[u8], separator: u8) -> Option<(&[u8], &[u8])>
 /// The first line, and what stands behind its line feed: `parted(b"ab\ncd")` is `ab` and `cd`.
 /// Without a line feed all of it is the line.
 pub fn parted(bytes: &[u8]) -> (&[u8], &[u8])
+    ensures parts { Parted bytes.now result.0.now result.1.now }
+    ensures within { length result.1.now ≤ length bytes.now }
     ensures line { result.0.now ≡ line bytes.now }
     ensures rest { result.1.now ≡ behind bytes.now }
 {

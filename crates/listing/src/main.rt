@@ -2,9 +2,9 @@
 
 #![tactic(auto)]
 
-mod input;
 mod job;
 
+use lines::parted;
 use std::io::Read;
 
 fn main(rt: HostRuntime) -> anyhow::Result<()> {
@@ -14,7 +14,7 @@ fn main(rt: HostRuntime) -> anyhow::Result<()> {
         println!(rt; "too long")?;
         return Ok(());
     }
-    let (expression, text) = input::parted(&bytes);
+    let (expression, text) = parted(&bytes);
     match job::list(rt.alloc(), expression, text) {
         Ok(listing) => println!(rt; "{listing}")?,
         Err(fault) => println!(rt; "{fault}")?,
