@@ -1,16 +1,16 @@
 -- What holds of a search that is set aside, over each call. Assumes nothing.
-use Rattle.std.proofs.Common.{◌≡◌, ℕ, zero, suc, ◌+◌, ◌-◌, ◌<◌, ◌≤◌, true, false, cond, ◌||◌, ltb, List, [], ◌++◌, length, take, drop, sym, refl, ap, ◌∙◌, subst, subst₂, Ok, Err, Result, MatchResult, ⊎_elim, arith, take-append-drop}
+use Rattle.std.proofs.Common.{◌≡◌, ℕ, zero, suc, ◌+◌, ◌-◌, ◌<◌, ◌≤◌, true, false, ◌||◌, List, [], ◌++◌, length, take, drop, sym, refl, ap, ◌∙◌, subst, subst₂, Ok, Err, Result, MatchResult, ⊎_elim, arith, take-append-drop}
 use Rattle.std.specs.Prelude.{⊤}
-use Rattle.std.proofs.lemmas.Bool.{cases_Bool, cond-true, cond-false, or_from, or_parts, or_cases, both_ways, lt-ltb, le-ltb}
+use Rattle.std.proofs.lemmas.Bool.{cases_Bool, or_parts, or_cases, both_ways, lt-ltb, le-ltb}
 use Rattle.regular.specs.Language.{Regex, Inhabited}
 use Rattle.regular.specs.Jumps.{Skips}
-use Rattle.regular.specs.Matches.{ending, listed, Exactly}
+use Rattle.regular.specs.Matches.{listed, Exactly}
 use Rattle.regular.proofs.Endings.{listed_exactly, exactly_one, listed_on}
 use Rattle.refusal.specs.declared.Fault.{Fault}
-use Rattle.refusal.specs.declared.Fault.TheVariants.{Finished, NoRoom, BeyondText}
+use Rattle.refusal.specs.declared.Fault.TheVariants.{BeyondText}
 use Rattle.search.specs.Rules.{finished, crowded, why}
 use Rattle.search.specs.Calls.{fresh, stepped, held, ran, Added, Stepped, Held, RanBy}
-use Rattle.search.specs.Reckoning.{Reckoned, begun, filled_by, due, granted, granted_all, called}
+use Rattle.search.specs.Reckoning.{Reckoned, filled_by, due, granted_all, called}
 use Rattle.search.specs.ListTheorem.{SetAside}
 use Rattle.search.specs.Performing.{plain, named, CalledBy}
 use Rattle.search.specs.declared.numbers.Answer.{Answer}
@@ -88,17 +88,11 @@ module _ (r : Regex) (t : List ℕ) (shifts : ℕ → List ℕ → ℕ) where
 
   plain_ran : (i : Inhabited r) (size e : ℕ) → Skips r (shifts e) → (b : ℕ) (k : Numbers) → Kept r t k → plain (ran r t size (shifts e) b k) ≡ granted_all r t size shifts e b (plain k)
   plain_ran i size e skips zero k _ = refl
-  plain_ran i size e skips (suc b) k kept =
-      let same = same_due size k kept in
-      let further = plain_ran i size e skips b (stepped r t (shifts e) k) in
+  plain_ran i size e skips (suc b) k keeps =
+      let same = same_due size k keeps in
       ⊎_elim
-      (λ f.
-      ap plain (cond-true (held r t size k) k (ran r t size (shifts e) b (stepped r t (shifts e) k)) f)
-      ∙ sym (cond-true (due r t size shifts (plain k)) (plain k) (granted_all r t size shifts e b (granted r t size shifts e (plain k))) (sym same ∙ f)))
-      (λ f.
-      ap plain (cond-false (held r t size k) k (ran r t size (shifts e) b (stepped r t (shifts e) k)) f)
-      ∙ further (kept_step r i (shifts e) skips t k kept (or_parts (finished t k.next) (crowded r t (size - k.filled) k.next) f).0)
-      ∙ sym (cond-false (due r t size shifts (plain k)) (plain k) (granted_all r t size shifts e b (granted r t size shifts e (plain k))) (sym same ∙ f)))
+      (λ f. let due_too : due r t size shifts (plain k) ≡ true = sym same ∙ f in rw (f, due_too) refl)
+      (λ f. let due_no : due r t size shifts (plain k) ≡ false = sym same ∙ f in rw (f, due_no) (plain_ran i size e skips b (stepped r t (shifts e) k) (kept_step r i (shifts e) skips t k keeps (or_parts (finished t k.next) (crowded r t (size - k.filled) k.next) f).0)))
       (cases_Bool (held r t size k))
 
   module _ (k k' : Numbers) (table table' : List (ℕ × ℕ)) (aside : Aside r t k table) where
@@ -119,19 +113,11 @@ module _ (r : Regex) (t : List ℕ) (shifts : ℕ → List ℕ → ℕ) where
 
     call_stepped : (e n : ℕ) → Inhabited r → Skips r (shifts e) → Stepped r (shifts e) t k k' table table' n → CalledBy r t shifts (Call.Step e) k k' table table' (Answer.Wrote n)
     call_stepped e n i skips by =
-        let many = length (ending r t k.next) in
-        let room = length table - filled_by r t (length table) shifts (plain k) in
-        let ten : Answer = Answer.Refused (NoRoom k.next many) in
-        let fitting : crowded r t room k.next ≡ false = ap (λ f. crowded r t (length table - f) k.next) (sym full) ∙ by.fitting in
-        let after : plain k' ≡ called r t (length table) shifts (Call.Step e) (plain k) =
-        ap plain by.after
-        ∙ sym (cond-false (due r t (length table) shifts (plain k)) (plain k) (granted r t (length table) shifts e (plain k)) (or_from (finished t k.next) (crowded r t room k.next) by.going fitting)) in
+        let fitting : crowded r t (length table - filled_by r t (length table) shifts (plain k)) k.next ≡ false = ap (λ f. crowded r t (length table - f) k.next) (sym full) ∙ by.fitting in
+        let after : plain k' ≡ called r t (length table) shifts (Call.Step e) (plain k) = rw (by.going, fitting) (ap plain by.after) in
         let aside' = step_aside r t i (shifts e) skips k k' table table' aside n by in
         record {
-          says =
-              ap Answer.Wrote by.count
-              ∙ sym (cond-false (crowded r t room k.next) ten (Answer.Wrote many) fitting)
-              ∙ sym (cond-false (finished t k.next) (Answer.Refused (Finished k.next)) (cond (crowded r t room k.next) ten (Answer.Wrote many)) by.going);
+          says = rw (by.going, fitting) (ap Answer.Wrote by.count);
           after = after;
           aside = aside';
           leaves = table_by aside' (step_added r t i (shifts e) skips k k' table table' aside n by) (called r t (length table) shifts (Call.Step e) (plain k)) after;
@@ -139,27 +125,17 @@ module _ (r : Regex) (t : List ℕ) (shifts : ℕ → List ℕ → ℕ) where
 
     call_held : (e : ℕ) (x : Fault) → Held r (shifts e) t k k' table table' x → CalledBy r t shifts (Call.Step e) k k' table table' (Answer.Refused x)
     call_held e x by =
-        let many = length (ending r t k.next) in
-        let room = length table - filled_by r t (length table) shifts (plain k) in
-        let done : Fault = Finished k.next in
-        let ten : Fault = NoRoom k.next many in
         let is_due : due r t (length table) shifts (plain k) ≡ true = sym (same_due (length table) k (aside_kept r t k (take k.filled table) aside)) ∙ by.due in
-        let after : plain k' ≡ called r t (length table) shifts (Call.Step e) (plain k) =
-        ap plain by.same ∙ sym (cond-true (due r t (length table) shifts (plain k)) (plain k) (granted r t (length table) shifts e (plain k)) is_due) in
-        let aside' : Aside r t k' table' = subst (λ z. Aside r t z table') (sym by.same) (subst (Aside r t k) (sym by.kept) aside) in
-        let added : Added k k' (listed r t k.next (k'.next - k.next)) table table' =
-        subst (λ z. Added k z (listed r t k.next (z.next - k.next)) table table') (sym by.same) (subst (Added k k (listed r t k.next (k.next - k.next)) table) (sym by.kept) (added_none r t k table)) in
+        let after : plain k' ≡ called r t (length table) shifts (Call.Step e) (plain k) = rw is_due (ap plain by.same) in
+        let aside' : Aside r t k' table' = subst₂ (Aside r t) (sym by.same) (sym by.kept) aside in
+        let added = subst₂ (λ z x. Added k z (listed r t k.next (z.next - k.next)) table x) (sym by.same) (sym by.kept) (added_none r t k table) in
         record {
           says =
               ⊎_elim
+              (λ f. rw f (ap Answer.Refused (by.fault_is ∙ rw f refl)))
               (λ f.
-              ap Answer.Refused (by.fault_is ∙ cond-true (finished t k.next) done ten f)
-              ∙ sym (cond-true (finished t k.next) (Answer.Refused done) (cond (crowded r t room k.next) (Answer.Refused ten) (Answer.Wrote many)) f))
-              (λ f.
-              let full' : crowded r t room k.next ≡ true = ⊎_elim (λ g. absurd (both_ways (finished t k.next) f g)) (λ g. g) (or_cases (finished t k.next) (crowded r t room k.next) is_due) in
-              ap Answer.Refused (by.fault_is ∙ cond-false (finished t k.next) done ten f)
-              ∙ sym (cond-true (crowded r t room k.next) (Answer.Refused ten) (Answer.Wrote many) full')
-              ∙ sym (cond-false (finished t k.next) (Answer.Refused done) (cond (crowded r t room k.next) (Answer.Refused ten) (Answer.Wrote many)) f))
+              let crowd : crowded r t (length table - filled_by r t (length table) shifts (plain k)) k.next ≡ true = ⊎_elim (λ g. absurd (both_ways (finished t k.next) f g)) (λ g. g) (or_cases (finished t k.next) (crowded r t (length table - filled_by r t (length table) shifts (plain k)) k.next) is_due) in
+              rw (f, crowd) (ap Answer.Refused (by.fault_is ∙ rw f refl)))
               (cases_Bool (finished t k.next));
           after = after;
           aside = aside';
@@ -192,17 +168,17 @@ module _ (r : Regex) (t : List ℕ) (shifts : ℕ → List ℕ → ℕ) where
     call_moved p n long kept (Ok u) a (le, after) is =
         let inside = le-ltb (length t) p (omega arith) in
         record {
-          says = is ∙ sym (cond-false (ltb (length t) p) (Answer.Refused (BeyondText p)) Answer.Moved inside);
-          after = ap plain after ∙ sym (cond-false (ltb (length t) p) (plain k) (begun p) inside);
+          says = rw inside is;
+          after = rw inside (ap plain after);
           aside = subst (λ z. Aside r t z table') (sym after) (fresh_aside r t p (omega arith));
           leaves = kept;
         }
     call_moved p n long kept (Err f) a (lt, fault, same) is =
         let past = lt-ltb (length t) p (omega arith) in
         record {
-          says = is ∙ ap Answer.Refused fault ∙ sym (cond-true (ltb (length t) p) (Answer.Refused (BeyondText p)) Answer.Moved past);
-          after = ap plain same ∙ sym (cond-true (ltb (length t) p) (plain k) (begun p) past);
-          aside = subst (λ z. Aside r t z table') (sym same) (subst (Aside r t k) (sym kept) aside);
+          says = rw past (is ∙ ap Answer.Refused fault);
+          after = rw past (ap plain same);
+          aside = subst₂ (Aside r t) (sym same) (sym kept) aside;
           leaves = kept;
         }
 

@@ -1,6 +1,6 @@
 -- How the numbers of a search move, by the law of its engine. Assumes nothing.
 use Rattle.std.proofs.Common.{◌≡◌, ℕ, zero, suc, ◌+◌, ◌-◌, ◌*◌, ◌<◌, ◌≤◌, min, max, true, false, List, length, sym, refl, ap, ◌∙◌, add-mul, arith, length-append}
-use Rattle.std.proofs.lemmas.Bool.{cond_both, cond-true, cond-false, ltb-false, or_left, or_right, or_parts}
+use Rattle.std.proofs.lemmas.Bool.{cond_both, ltb-false, or_parts}
 use Rattle.regular.specs.Language.{Regex, Inhabited, Shortest}
 use Rattle.regular.specs.Jumps.{Skips}
 use Rattle.regular.specs.Matches.{ending, listed, longest}
@@ -21,20 +21,10 @@ stepped_is r t h k next jump count reads n long is far counted read =
 -- a step is refused where all places are looked at, or else where the room is too small
 module _ (r : Regex) (h : List ℕ → ℕ) (t : List ℕ) (k : Numbers) (table : List (ℕ × ℕ)) where
   pub held_finished : finished t k.next ≡ true → Held r h t k k table table (Finished k.next)
-  held_finished f = record {
-    due = or_left (finished t k.next) (crowded r t (length table - k.filled) k.next) f;
-    fault_is = sym (cond-true (finished t k.next) (Finished k.next) (NoRoom k.next (length (ending r t k.next))) f);
-    same = refl;
-    kept = refl;
-  }
+  held_finished f = record { due = rw f refl; fault_is = rw f refl; same = refl; kept = refl }
 
   pub held_crowded : (count : ℕ) → finished t k.next ≡ false → count ≡ length (ending r t k.next) → crowded r t (length table - k.filled) k.next ≡ true → Held r h t k k table table (NoRoom k.next count)
-  held_crowded count f is full = record {
-    due = or_right (finished t k.next) (crowded r t (length table - k.filled) k.next) full;
-    fault_is = ap (NoRoom k.next) is ∙ sym (cond-false (finished t k.next) (Finished k.next) (NoRoom k.next (length (ending r t k.next))) f);
-    same = refl;
-    kept = refl;
-  }
+  held_crowded count f is full = record { due = rw (f, full) refl; fault_is = rw f (ap (NoRoom k.next) is); same = refl; kept = refl }
 
 -- what the numbers of a search keep
 pub record Kept (r : Regex) (t : List ℕ) (k : Numbers) : Type 0 where

@@ -1,6 +1,6 @@
 -- What a run keeps from step to step. Assumes nothing.
-use Rattle.std.proofs.Common.{◌≡◌, ℕ, zero, suc, ◌+◌, ◌-◌, ◌<◌, ◌≤◌, true, false, cond, eqb, List, ◌++◌, length, take, sym, refl, ap, ◌∙◌, subst, subst₂, append_assoc, append-nil, arith}
-use Rattle.std.proofs.lemmas.Bool.{or_from, or_left, cond-true, cond-false, eq-eqb, ne_eqb}
+use Rattle.std.proofs.Common.{◌≡◌, ℕ, zero, suc, ◌+◌, ◌-◌, ◌<◌, ◌≤◌, true, false, List, ◌++◌, length, take, sym, refl, ap, ◌∙◌, subst, subst₂, append_assoc, append-nil, arith}
+use Rattle.std.proofs.lemmas.Bool.{eq-eqb, ne_eqb}
 use Rattle.regular.specs.Language.{Regex, Inhabited}
 use Rattle.regular.specs.Jumps.{Skips}
 use Rattle.regular.specs.Matches.{ending, listed}
@@ -45,12 +45,11 @@ module _ (r : Regex) (h : List ℕ → ℕ) (t : List ℕ) (start : Numbers) (ol
   ran_more zero k pos f c = absurd (omega arith)
   ran_more (suc b) k pos f c =
       let e : suc b - 1 ≡ b = omega arith in
-      ap (λ n. ran r t (length old) h n (stepped r t h k)) e
-      ∙ sym (cond-false (held r t (length old) k) k (ran r t (length old) h b (stepped r t h k)) (or_from (finished t k.next) (crowded r t (length old - k.filled) k.next) f c))
+      rw (f, c) (ap (λ n. ran r t (length old) h n (stepped r t h k)) e)
 
   ran_stop : (b : ℕ) (k : Numbers) → held r t (length old) k ≡ true → ran r t (length old) h b k ≡ k
   ran_stop zero k f = refl
-  ran_stop (suc b) k f = cond-true (held r t (length old) k) k (ran r t (length old) h b (stepped r t h k)) f
+  ran_stop (suc b) k f = rw f refl
 
   module _ (i : Inhabited r) (skips : Skips r h) (done : ℕ) (k : Numbers) (table : List (ℕ × ℕ)) (runs : Runs r h t start old budget done k table) (lt : done < budget) (long : length table ≡ length old) where
     on_by : (table' : List (ℕ × ℕ)) → finished t k.next ≡ false → crowded r t (length old - k.filled) k.next ≡ false → Added k (stepped r t h k) (ending r t k.next) table table' → Runs r h t start old budget (done + 1) (stepped r t h k) table'
@@ -89,19 +88,14 @@ module _ (r : Regex) (h : List ℕ → ℕ) (t : List ℕ) (start : Numbers) (ol
     ran_by stop over is = let walked = runs.walked in record { after = sym over ∙ runs.left; steps = omega arith; stop_is = is; added = runs.added }
 
     pub ends_finished : finished t k.next ≡ true → RanBy r h t start k old table budget done Stop.Finished
-    ends_finished f =
-        ran_by Stop.Finished (ran_stop (budget - done) k (or_left (finished t k.next) (crowded r t (length old - k.filled) k.next) f))
-        (sym (cond-true (finished t k.next) Stop.Finished (cond (eqb done budget) Stop.Budget Stop.Room) f))
+    ends_finished f = ran_by Stop.Finished (ran_stop (budget - done) k (rw f refl)) (rw f refl)
 
     pub ends_budget : finished t k.next ≡ false → done ≡ budget → RanBy r h t start k old table budget done Stop.Budget
     ends_budget f e =
         let over : budget - done ≡ 0 = omega arith in
-        ran_by Stop.Budget (ap (λ n. ran r t (length old) h n k) over)
-        (sym (cond-true (eqb done budget) Stop.Budget Stop.Room (eq-eqb done budget e)) ∙ sym (cond-false (finished t k.next) Stop.Finished (cond (eqb done budget) Stop.Budget Stop.Room) f))
+        ran_by Stop.Budget (ap (λ n. ran r t (length old) h n k) over) (rw (f, eq-eqb done budget e) refl)
 
     pub ends_room : finished t k.next ≡ false → (done ≡ budget → ⊥) → length table ≡ length old → (k' : Numbers) (table' : List (ℕ × ℕ)) (fault : Fault) → Held r h t k k' table table' fault → RanBy r h t start k' old table' budget done Stop.Room
     ends_room f e long k' table' fault by =
-        let as_was =
-        ran_by Stop.Room (ran_stop (budget - done) k (subst (λ n. held r t n k ≡ true) long by.due))
-        (sym (cond-false (eqb done budget) Stop.Budget Stop.Room (ne_eqb done budget e)) ∙ sym (cond-false (finished t k.next) Stop.Finished (cond (eqb done budget) Stop.Budget Stop.Room) f)) in
+        let as_was = ran_by Stop.Room (ran_stop (budget - done) k (subst (λ n. held r t n k ≡ true) long by.due)) (rw (f, ne_eqb done budget e) refl) in
         subst₂ (λ x y. RanBy r h t start x old y budget done Stop.Room) (sym by.same) (sym by.kept) as_was
