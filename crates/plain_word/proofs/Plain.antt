@@ -57,7 +57,7 @@ moves_jump n w few x e j h le L =
 
 -- over the tree of an expression that spells a word
 module _ (n : Node) (w : List ℕ) (x : exact n ≡ true) (e : spelling n ≡ Some w) where
-  alone : (v : List ℕ) → Word (language n) v ↔ (v ≡ w)
+  pub alone : (v : List ℕ) → Word (language n) v ↔ (v ≡ w)
   alone = spelled_alone n w x e
 
   -- the counts that an engine of the word has as its states

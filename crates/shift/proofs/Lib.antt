@@ -1,5 +1,5 @@
 mod SameKind
 mod Longer
 mod Distances
-mod Exactly
+mod Final
 pub mod Greatest

@@ -1,5 +1,5 @@
 use Rattle.std.proofs.Common.{arith}
-use Rattle.shift.proofs.Exactly.{fold_most}
+use Rattle.shift.proofs.Final.{fold_most}
 use Rattle.shift.proofs.pieces.Pieces.jump.Goals as goal
 
 pub overflow_cast-result : goal.overflow_cast-result

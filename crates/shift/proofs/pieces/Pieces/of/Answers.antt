@@ -3,7 +3,7 @@ use Rattle.positions.specs.Closure.{Closed}
 use Rattle.distance.specs.Extremes.{finite, lesser}
 use Rattle.distance.specs.Found.{first_of, second_of}
 use Rattle.shift.specs.Led.{words}
-use Rattle.shift.proofs.Exactly.{each_more}
+use Rattle.shift.proofs.Final.{each_more}
 use Rattle.shift.proofs.pieces.Pieces.of.Goals as goal
 
 pub loop-tail-preserved : goal.loop-tail-preserved

@@ -270,9 +270,9 @@ module _ (r : Regex) (few : size r ≤ 63) (h : Inhabited r) (W : Within 256 r) 
         (cases_lt k i),
   )
 
-  pub jumps_right : (read : List ℕ) (p : Pieces) (n : ℕ) (out : List ℕ) → read ≡ arrows_of r → WeighedFor read t p → n ≡ length read
+  pub all_right : (read : List ℕ) (p : Pieces) (n : ℕ) (out : List ℕ) → read ≡ arrows_of r → WeighedFor read t p → n ≡ length read
       → out ≡ map (jump_of p.depth (vec_items p.list)) (range_with_len 0 n) → PositionJumps r out
-  jumps_right read p n out is P long e =
+  all_right read p n out is P long e =
       let ps = vec_items p.list in
       let total : n ≡ size r + 1 = long ∙ ap length is ∙ count r few in
       let each : EachWeighed (arrows_of r) (listed r k) k (map (led r) (listed r k)) ps =
