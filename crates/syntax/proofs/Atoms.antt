@@ -1,5 +1,5 @@
 -- The reading of atoms and of items. Assumes nothing.
-use Rattle.std.proofs.Common.{◌≡◌, ℕ, suc, ◌-◌, ◌<◌, ◌≤◌, Bool, true, false, ◌||◌, eqb, ◌⊎◌, List, [], ◌∷◌, ◌++◌, length, Some, None, option_map, Ok, Err, Option, Result, sym, refl, ap, ◌∙◌, subst, ⊎_elim, append_assoc, arith, IfNone, IfSome, MatchBool, MatchResult}
+use Rattle.std.proofs.Common.{◌≡◌, ℕ, suc, ◌-◌, ◌<◌, ◌≤◌, Bool, true, false, ◌||◌, eqb, ◌⊎◌, List, [], ◌∷◌, ◌++◌, length, Some, None, option_map, Ok, Err, Option, Result, sym, refl, ap, ◌∙◌, subst, append_assoc, arith, IfNone, IfSome, MatchBool, MatchResult}
 use mathlib.Core.Path.{fun_ext}
 use Rattle.std.proofs.lemmas.Bool.{true≢false, false≢true, or_parts}
 use Rattle.regular.specs.Language.{one}
@@ -36,22 +36,14 @@ sign (Unit c) = false
 sign (Set n r) = false
 
 simple_no_sign : (m : Mode) (s : Simple m) (p : ℕ) (t : Token) → Stands m (tokens.atom s) p t → sign t ≡ false
-simple_no_sign m dot p t h = ap sign h
-simple_no_sign m (unit a x) p t h = ap sign h
-simple_no_sign m (set n xs) p t (r, h, _, _) = ap sign h
+simple_no_sign m s p t h = grind arith
 
 module _ {t : Token} where
   signs : (t ≡ Close) ⊎ ((t ≡ Bar) ⊎ ((k : tree.Mark) × (t ≡ Mark k))) → sign t ≡ true
-  signs = ⊎_elim (ap sign) (⊎_elim (ap sign) (λ (_, e). ap sign e))
-
-  apart : {u : Token} → t ≡ u → (u ≡ Open → ⊥) → t ≡ Open → ⊥
-  apart e h o = h (sym e ∙ o)
+  signs h = grind arith
 
   not_open : (t ≡ Close) ⊎ ((t ≡ Bar) ⊎ ((k : tree.Mark) × (t ≡ Mark k))) → t ≡ Open → ⊥
-  not_open = ⊎_elim
-      (λ e. apart e (λ o. cc)) (⊎_elim
-      (λ e. apart e (λ o. cc))
-      (λ (_, e). apart e (λ o. cc)))
+  not_open h o = grind arith
 
 abbrev pub Atoms : (m : Mode) → Lexer → ℕ → Result Node Fault → Lexer → Type 0
 Atoms m old left r new = (a : Tree m atom) (w : List ℕ) → Before m (written a ++ w) old → nesting a ≤ left → Got a w r new

@@ -62,7 +62,7 @@ module _ (m : Mode) (big small : Level) (k : Chain m big small) where
 
   chained_written : (t : Tree m big) (ss : List (Tree m small)) → written (chained k.next t ss) ≡ written t ++ flat_map shown ss
   chained_written t [] = sym (append-nil _)
-  chained_written t (s ∷ ss) = chained_written (k.next t s) ss ∙ ap (λ z. z ++ flat_map shown ss) (k.next_written t s) ∙ append_assoc (written t) (shown s) (flat_map shown ss)
+  chained_written t (s ∷ ss) = grind (arith, append_assoc, chained_written (k.next t s) ss, k.next_written t s)
 
   chained_nesting : (t : Tree m big) (ss : List (Tree m small)) → nesting t ≤ nesting (chained k.next t ss)
   chained_nesting t [] = omega arith

@@ -1,5 +1,5 @@
 -- The automaton reads every written expression. Assumes nothing.
-use Rattle.std.proofs.Common.{◌≡◌, ℕ, suc, Bool, true, false, cond, eqb, List, [], ◌∷◌, ◌++◌, Some, None, Option, refl, ap, ◌∙◌, append_assoc}
+use Rattle.std.proofs.Common.{◌≡◌, ℕ, suc, Bool, true, false, cond, eqb, List, [], ◌∷◌, ◌++◌, Some, None, Option, refl, ap, ◌∙◌, append_assoc, arith, rules}
 use Rattle.std.proofs.lemmas.Bool.{ne_eqb}
 use Rattle.syntax.specs.declared.mode.Mode.{Mode}
 use Rattle.syntax.specs.declared.mode.Mode.TheVariants.{Bytes, Fields}
@@ -67,8 +67,7 @@ module _ (m : Mode) (d : ℕ) where
 
 module _ (d : ℕ) where
   opened_starts : (m : Mode) → Starts m d Opened
-  opened_starts Bytes b h = ap (λ t. cond t (Some (state Member d)) (start Bytes b MemberHalf One d)) (values_differ Bytes d 94 b refl h)
-  opened_starts Fields b h = ap (λ t. cond t (Some (state Member d)) (start Fields b MemberHalf One d)) (values_differ Fields d 94 b refl h)
+  opened_starts m b h = grind (arith, values_differ)
 
   two_starts : Starts Bytes d Two
   two_starts b h = ap (λ t. cond t (Some (state Atom d)) (start Bytes b MemberHalf One d)) (values_differ Bytes d 93 b refl h)
@@ -92,10 +91,7 @@ module _ (d : ℕ) where
       dash b h = refl
 
   close : (m : Mode) (k : syntax.Member m) (w : List ℕ) → run m (closing m ∷ w) (after k) d ≡ run m w Atom d
-  close Bytes (single x) w = refl
-  close Bytes (range x y) w = refl
-  close Fields (single x) w = refl
-  close Fields (range x y) w = refl
+  close m k w = search rules
 
   members : (m : Mode) (xs : Members m) (f : Form) → Starts m d f → (w : List ℕ) → run m (written_members m xs ++ (closing m ∷ w)) f d ≡ run m w Atom d
   members m (last k) f s w = member m k f s (closing m ∷ w) ∙ close m k w
@@ -108,12 +104,7 @@ module _ (d : ℕ) where
       between Fields xs (range x y) h = h Member (member_starts Fields) w
 
   picked : (x : Option State) (b : ℕ) → (begins Bytes b ≡ Not → ⊥) → pick (begins Bytes b) x (Some (state Half d)) (Some (state Atom d)) ≡ start Bytes b Half Atom d
-  picked x b h = go (begins Bytes b) h
-    where
-      go : (z : Begun) → (z ≡ Not → ⊥) → pick z x (Some (state Half d)) (Some (state Atom d)) ≡ pick z None (Some (state Half d)) (Some (state Atom d))
-      go Not h = absurd (h refl)
-      go Part h = refl
-      go Whole h = refl
+  picked x b h = grind arith
 
   unit_read : (x : Value Bytes) (f : Place) (w : List ℕ) → run Bytes (written_value Bytes x ++ w) (form f) d ≡ run Bytes w Atom d
   unit_read x f w = value Bytes d x (form f) Half Atom (begin f) (λ b. refl) w
@@ -127,12 +118,7 @@ module _ (d : ℕ) where
   simple_read m dot f w = at_dot m f
     where
       at_dot : (m : Mode) (f : Place) → run m (46 ∷ w) (form f) d ≡ run m w Atom d
-      at_dot Bytes before = refl
-      at_dot Bytes behind_atom = refl
-      at_dot Bytes behind_mark = refl
-      at_dot Fields before = refl
-      at_dot Fields behind_atom = refl
-      at_dot Fields behind_mark = refl
+      at_dot m f = search rules
   simple_read m (unit a x) f w = lone m a x
     where
       lone : (m : Mode) → syntax.Alone m → (x : Value m) → run m (written_value m x ++ w) (form f) d ≡ run m w Atom d
@@ -141,12 +127,7 @@ module _ (d : ℕ) where
   simple_read m (set n xs) f w = opens m _ f ∙ inner n
     where
       opens : (m : Mode) (u : List ℕ) (f : Place) → run m (syntax.opening m ∷ u) (form f) d ≡ run m u Opened d
-      opens Bytes u before = refl
-      opens Bytes u behind_atom = refl
-      opens Bytes u behind_mark = refl
-      opens Fields u before = refl
-      opens Fields u behind_atom = refl
-      opens Fields u behind_mark = refl
+      opens m u f = search rules
 
       inner : (n : Bool) → run m ((syntax.caret n ++ (written_members m xs ++ (closing m ∷ []))) ++ w) Opened d ≡ run m w Atom d
       inner true = went m d Opened 94 ((written_members m xs ++ (closing m ∷ [])) ++ w) refl ∙ rw (append_assoc (written_members m xs) (closing m ∷ []) w) (members m xs Member (member_starts m) w)
@@ -168,33 +149,16 @@ ended (simple s) = false
 -- the bytes that stand outside sets
 module _ (d : ℕ) (w : List ℕ) where
   bar : (m : Mode) (x : Bool) → run m (124 ∷ w) (form (behind x)) d ≡ run m w Need d
-  bar Bytes false = refl
-  bar Bytes true = refl
-  bar Fields false = refl
-  bar Fields true = refl
+  bar m x = grind arith
 
   open' : (m : Mode) (f : Place) → run m (40 ∷ w) (form f) d ≡ run m w Need (suc d)
-  open' Bytes before = refl
-  open' Bytes behind_atom = refl
-  open' Bytes behind_mark = refl
-  open' Fields before = refl
-  open' Fields behind_atom = refl
-  open' Fields behind_mark = refl
+  open' m f = grind arith
 
   close' : (m : Mode) (x : Bool) → run m (41 ∷ w) (form (behind x)) (suc d) ≡ run m w Atom d
-  close' Bytes false = refl
-  close' Bytes true = refl
-  close' Fields false = refl
-  close' Fields true = refl
+  close' m x = search rules
 
   mark : (m : Mode) (a : Tree m syntax.atom) (k : Mark) → run m (written_mark k ++ w) Atom d ≡ run m w (form (behind (ended (marked a k)))) d
-  mark m a once = refl
-  mark Bytes a any = refl
-  mark Bytes a some_times = refl
-  mark Bytes a perhaps = refl
-  mark Fields a any = refl
-  mark Fields a some_times = refl
-  mark Fields a perhaps = refl
+  mark m a k = search rules
 
 atom_ended : {m : Mode} (a : Tree m syntax.atom) → ended a ≡ false
 atom_ended (group t) = refl

@@ -1,5 +1,5 @@
 -- Values, members and lexemes are determined by what is written. Assumes nothing.
-use Rattle.std.proofs.Common.{◌≡◌, ℕ, Bool, true, false, List, [], ◌∷◌, ◌++◌, sym, refl, ap, ◌∙◌, subst, append_assoc, arith}
+use Rattle.std.proofs.Common.{◌≡◌, ℕ, Bool, true, false, List, [], ◌∷◌, ◌++◌, sym, refl, ap, ◌∙◌, subst, append_assoc, arith, rules}
 use mathlib.Core.List.{nil≢cons}
 use mathlib.Core.Bool.{Bool-set}
 use Rattle.std.specs.List.{flat_map}
@@ -52,12 +52,10 @@ abbrev NoDash : List ℕ → Type 0
 NoDash w = starts 45 w ≡ false
 
 closing_no_dash : (m : Mode) (v : List ℕ) → NoDash (closing m ∷ v)
-closing_no_dash Bytes v = refl
-closing_no_dash Fields v = refl
+closing_no_dash m v = search rules
 
 more_no_dash : (m : Mode) (ys : Members m) (u : List ℕ) → NoDash ((separator m ++ written_members m ys) ++ u)
-more_no_dash Bytes ys u = members_start Bytes ys u 45 refl
-more_no_dash Fields ys u = refl
+more_no_dash m ys u = grind (arith, members_start)
 
 no_closing : (m : Mode) (ys : Members m) (u v : List ℕ) → closing m ∷ v ≡ (separator m ++ written_members m ys) ++ u → ⊥
 no_closing Bytes ys u v e = true≢false (ap (starts 93) e ∙ members_start Bytes ys u 93 refl)

@@ -1,15 +1,14 @@
 -- Trees whose atoms each hold some code, and how many positions a tree has. Assumes nothing.
-use Rattle.std.proofs.Common.{◌≡◌, ℕ, ◌+◌, ◌≤◌, Bool, true, false, cond, [], ◌∷◌, length, sym, refl, ap, ◌∙◌, append-nil, arith, length-append}
+use Rattle.std.proofs.Common.{◌≡◌, ℕ, ◌+◌, ◌≤◌, Bool, true, false, cond, [], ◌∷◌, length, sym, refl, ◌∙◌, append-nil, arith, length-append, rules}
 use mathlib.Core.List.{nil≢cons}
 use Rattle.std.specs.List.{flat_map}
 use Rattle.std.proofs.lemmas.Bool.{and_parts}
 use Rattle.std.proofs.lemmas.Grind.{flat_map-append}
-use Rattle.std.specs.Cmp.Derive.{both_true}
 use Rattle.regular.specs.Language.{Regex, one, join, either, star, plus, maybe, Inhabited}
 use Rattle.regular.specs.Positions.{some_below, size}
 use Rattle.syntax.specs.declared.mode.Mode.{Mode}
 use Rattle.syntax.specs.declared.tree.Node.{Node}
-use Rattle.syntax.specs.Grammar.{Mark, once, any, some_times, perhaps, Level, Tree, only, or, lone, row, marked, group, simple, repeated, written, meaning, holds, top, parts}
+use Rattle.syntax.specs.Grammar.{Mark, Level, Tree, only, or, lone, row, marked, group, simple, repeated, written, meaning, holds, top, parts}
 use Rattle.syntax.specs.Refusals.{empty_set, position}
 use Rattle.syntax.specs.Tree.{some_code, filled, full, language}
 use Rattle.syntax.proofs.Walks.{append_none}
@@ -36,28 +35,18 @@ pub full_inhabited : (n : Node) → full n ≡ true → Inhabited (language n)
 full_inhabited n e = filled_inhabited (language n) e
 
 repeated_filled : (k : Mark) (r : Regex) → filled (repeated k r) ≡ filled r
-repeated_filled once r = refl
-repeated_filled any r = refl
-repeated_filled some_times r = refl
-repeated_filled perhaps r = refl
+repeated_filled k r = search rules
 
 repeated_size : (k : Mark) (r : Regex) → size (repeated k r) ≡ size r
-repeated_size once r = refl
-repeated_size any r = refl
-repeated_size some_times r = refl
-repeated_size perhaps r = refl
+repeated_size k r = search rules
 
 module _ {m : Mode} where
   -- a tree with no empty set is filled
   pub tree_filled : {l : Level} (t : Tree m l) (d p : ℕ) → flat_map empty_set (parts t d p) ≡ [] → filled (meaning t) ≡ true
   tree_filled (only b) d p e = tree_filled b d p e
-  tree_filled (or t b) d p e =
-      let (x, y) = append_none (flat_map empty_set (parts t d p)) (flat_map empty_set (parts b d (p + length (written t) + 1))) (sym (flat_map-append empty_set (parts t d p) _) ∙ e) in
-      both_true (tree_filled t d p x) (tree_filled b d _ y)
+  tree_filled (or t b) d p e = grind (arith, flat_map-append, append_none, tree_filled t d p, tree_filled b d (p + length (written t) + 1))
   tree_filled (lone i) d p e = tree_filled i d p e
-  tree_filled (row b i) d p e =
-      let (x, y) = append_none (flat_map empty_set (parts b d p)) (flat_map empty_set (parts i d (p + length (written b)))) (sym (flat_map-append empty_set (parts b d p) _) ∙ e) in
-      both_true (tree_filled b d p x) (tree_filled i d _ y)
+  tree_filled (row b i) d p e = grind (arith, flat_map-append, append_none, tree_filled b d p, tree_filled i d (p + length (written b)))
   tree_filled (marked a k) d p e = repeated_filled k (meaning a) ∙ tree_filled a d p e
   tree_filled (group t) d p e = tree_filled t (d + 1) (p + 1) e
   tree_filled (simple s) d p e = some_code_from (holds m s) (top m + 1) (omega (arith, top_low m)) (go (some_below (top m + 1) (holds m s)) (sym (append-nil _) ∙ e))
@@ -69,11 +58,9 @@ module _ {m : Mode} where
   -- a tree has as many positions as it has simple atoms
   pub tree_size : {l : Level} (t : Tree m l) (d p : ℕ) → size (meaning t) ≡ length (flat_map position (parts t d p))
   tree_size (only b) d p = tree_size b d p
-  tree_size (or t b) d p =
-      omega (arith, tree_size t d p, tree_size b d (p + length (written t) + 1), ap length (flat_map-append position (parts t d p) (parts b d (p + length (written t) + 1))), length-append (flat_map position (parts t d p)) (flat_map position (parts b d (p + length (written t) + 1))))
+  tree_size (or t b) d p = grind (arith, flat_map-append, length-append, tree_size t d p, tree_size b d (p + length (written t) + 1))
   tree_size (lone i) d p = tree_size i d p
-  tree_size (row b i) d p =
-      omega (arith, tree_size b d p, tree_size i d (p + length (written b)), ap length (flat_map-append position (parts b d p) (parts i d (p + length (written b)))), length-append (flat_map position (parts b d p)) (flat_map position (parts i d (p + length (written b)))))
+  tree_size (row b i) d p = grind (arith, flat_map-append, length-append, tree_size b d p, tree_size i d (p + length (written b)))
   tree_size (marked a k) d p = repeated_size k (meaning a) ∙ tree_size a d p
   tree_size (group t) d p = tree_size t (d + 1) (p + 1)
   tree_size (simple s) d p = refl

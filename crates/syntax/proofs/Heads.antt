@@ -45,37 +45,11 @@ ending m Two w = close m w
 
 -- behind an atom or a mark the groups may be closed
 closes : (m : Mode) (x : Bool) (d : ℕ) → Good (run m (closers d) (form (behind x)) d)
-closes m true zero = refl
-closes m false zero = refl
-closes m x (suc d) = go m x (closes m false d)
-  where
-    go : (m : Mode) (x : Bool) → Good (run m (closers d) Atom d) → Good (run m (41 ∷ closers d) (form (behind x)) (suc d))
-    go Bytes true h = h
-    go Bytes false h = h
-    go Fields true h = h
-    go Fields false h = h
+closes m x zero = grind arith
+closes m x (suc d) = grind (arith, closes m false d)
 
 ends_well : (m : Mode) (f : Form) (d : ℕ) → Good (run m (ending m f (closers d)) f d)
-ends_well m Atom d = closes m false d
-ends_well m Marked d = closes m true d
-ends_well Bytes Need d = closes Bytes false d
-ends_well Bytes Half d = closes Bytes false d
-ends_well Bytes Opened d = closes Bytes false d
-ends_well Bytes Member d = closes Bytes false d
-ends_well Bytes MemberHalf d = closes Bytes false d
-ends_well Bytes One d = closes Bytes false d
-ends_well Bytes Dash d = closes Bytes false d
-ends_well Bytes DashHalf d = closes Bytes false d
-ends_well Bytes Two d = closes Bytes false d
-ends_well Fields Need d = closes Fields false d
-ends_well Fields Half d = closes Fields false d
-ends_well Fields Opened d = closes Fields false d
-ends_well Fields Member d = closes Fields false d
-ends_well Fields MemberHalf d = closes Fields false d
-ends_well Fields One d = closes Fields false d
-ends_well Fields Dash d = closes Fields false d
-ends_well Fields DashHalf d = closes Fields false d
-ends_well Fields Two d = closes Fields false d
+ends_well m f d = grind (arith, closes m false d, closes m true d)
 
 module _ (m : Mode) where
   pub run_append : (u v : List ℕ) (f : Form) (d : ℕ) → run m (u ++ v) f d ≡ onward (run m u f d) (run m v)

@@ -1,8 +1,8 @@
 -- What a set holds, from its members. Assumes nothing.
-use Rattle.std.proofs.Common.{◌≡◌, ℕ, ◌+◌, Bool, true, false, cond, ◌||◌, ltb, List, [], ◌∷◌, ◌++◌, length, find, option_map, Some, None, Option, sym, refl, ap, ◌∙◌, subst, append_assoc, append-nil, arith}
+use Rattle.std.proofs.Common.{◌≡◌, ℕ, ◌+◌, Bool, false, cond, List, [], ◌∷◌, ◌++◌, length, find, option_map, Some, None, Option, sym, refl, ap, ◌∙◌, subst, append_assoc, append-nil, arith}
 use Rattle.std.specs.List.{list_any}
 use Rattle.std.proofs.Math.Bool.{or-false}
-use Rattle.std.proofs.lemmas.Bool.{le-ltb, ne_eqb}
+use Rattle.std.proofs.lemmas.Bool.{ne_eqb}
 use Rattle.std.proofs.lemmas.Bool.Decides.{nat_tests}
 use Rattle.syntax.specs.declared.mode.Mode.{Mode}
 use Rattle.syntax.specs.declared.mode.Mode.TheVariants.{Bytes, Fields}
@@ -10,7 +10,7 @@ use Rattle.syntax.specs.declared.lexer.Lexer.{Lexer}
 use Rattle.syntax.specs.declared.lexer.Token.TheVariants.{Set}
 use Rattle.syntax.specs.declared.members.Member as members
 use Rattle.syntax.specs.declared.members.Members as cursors
-use Rattle.syntax.specs.Grammar.{Simple, dot, unit, set, Member, Members, single, range, last, more, caret, code, separator, in_member, in_members, bare_set, written_value, written_member, written_members}
+use Rattle.syntax.specs.Grammar.{Simple, dot, unit, set, Member, Members, single, range, last, more, caret, separator, in_member, in_members, bare_set, written_value, written_member, written_members}
 use Rattle.syntax.specs.Refusals.{first, reversed_member, reversed_members}
 use Rattle.syntax.specs.Lexer.{Before, sole, value_of}
 use Rattle.syntax.specs.Members.{covers, runs_back, listed}
@@ -23,24 +23,18 @@ module _ (m : Mode) where
   listed_found xs s h = rw (h.mode_is, h.rest_is) (members_found m xs s.lexer.place _ refl)
 
   member_covers : (k : Member m) (p c : ℕ) → covers (member_at m k p) c ≡ in_member m k c
-  member_covers (single x) p c = grind (arith, nat_tests)
-  member_covers (range x y) p c = refl
+  member_covers k p c = grind (arith, nat_tests)
 
   pub covers_found : (xs : Members m) (p c : ℕ) → list_any (λ k. covers k c) (members_at m xs p) ≡ in_members m xs c
-  covers_found (last k) p c = or-false (covers (member_at m k p) c) ∙ member_covers k p c
-  covers_found (more k xs) p c = ap (λ z. z || list_any (λ k. covers k c) (members_at m xs (p + length (written_member m k) + length (separator m)))) (member_covers k p c) ∙ ap (λ z. in_member m k c || z) (covers_found xs (p + length (written_member m k) + length (separator m)) c)
+  covers_found (last k) p c = grind (arith, or-false, member_covers k p c)
+  covers_found (more k xs) p c = grind (arith, member_covers k p c, covers_found xs (p + length (written_member m k) + length (separator m)) c)
 
   abbrev pub place_of : Option members.Member → Option ℕ
   place_of = option_map (λ k. k.place)
 
   -- the first member that runs backwards is there or further on
   reversed_here : (k : Member m) (p : ℕ) (ks : List members.Member) (ps : List ℕ) → place_of (find runs_back ks) ≡ first ps → place_of (find runs_back (member_at m k p ∷ ks)) ≡ first (reversed_member m k p ++ ps)
-  reversed_here (single x) p ks ps h = ap (λ t. place_of (cond t (Some (member_at m (single x) p)) (find runs_back ks))) (le-ltb (code m x) (code m x) (omega arith)) ∙ h
-  reversed_here (range x y) p ks ps h = go (ltb (code m y) (code m x))
-    where
-      go : (t : Bool) → place_of (cond t (Some (member_at m (range x y) p)) (find runs_back ks)) ≡ first (cond t (p ∷ []) [] ++ ps)
-      go true = refl
-      go false = h
+  reversed_here k p ks ps h = grind (arith, nat_tests)
 
   pub reversed_found : (xs : Members m) (p : ℕ) → place_of (find runs_back (members_at m xs p)) ≡ first (reversed_members m xs p)
   reversed_found (last k) p = reversed_here k p [] [] refl ∙ ap first (append-nil _)

@@ -1,5 +1,5 @@
 -- What an expression's bytes begin with is what the lexer finds. Assumes nothing.
-use Rattle.std.proofs.Common.{◌≡◌, ℕ, ◌+◌, Bool, true, false, cond, eqb, List, [], ◌∷◌, ◌++◌, length, drop, Some, None, sym, refl, ap, ◌∙◌, append_assoc, append-nil, arith, length-append}
+use Rattle.std.proofs.Common.{◌≡◌, ℕ, ◌+◌, Bool, true, false, cond, eqb, List, [], ◌∷◌, ◌++◌, length, drop, Some, None, sym, refl, ap, ◌∙◌, append_assoc, append-nil, arith, length-append, rules}
 use Rattle.std.proofs.lemmas.Bool.{ne_eqb}
 use Rattle.syntax.specs.declared.mode.Mode.{Mode}
 use Rattle.syntax.specs.declared.mode.Mode.TheVariants.{Bytes, Fields}
@@ -17,13 +17,13 @@ use Rattle.syntax.proofs.Complete.{Shape, whole, halves, shape, not_not, not_who
 use Rattle.syntax.proofs.Listing.{first_listed}
 
 pub plain_not : (b k : ℕ) → special b ≡ false → special k ≡ true → eqb b k ≡ false
-plain_not b k p q = ne_eqb b k (λ e. let z : true ≡ false = sym q ∙ ap special (sym e) ∙ p in cc)
+plain_not b k p q = grind arith
 
 special_not : (b k : ℕ) → special b ≡ true → special k ≡ false → eqb b k ≡ false
-special_not b k p q = ne_eqb b k (λ e. let z : true ≡ false = sym p ∙ ap special e ∙ q in cc)
+special_not b k p q = grind arith
 
 digit_not : (b k : ℕ) → digit b ≡ true → digit k ≡ false → eqb b k ≡ false
-digit_not b k p q = ne_eqb b k (λ e. let z : true ≡ false = sym p ∙ ap digit e ∙ q in cc)
+digit_not b k p q = grind arith
 
 pub value_found : (m : Mode) (x : Value m) (v : List ℕ) → value_of m (written_value m x ++ v) ≡ Some (code m x, v)
 value_found Bytes (plain b q) v = rw (plain_not b 92 q refl) refl
@@ -36,7 +36,7 @@ abbrev Passes : ℕ → List ℕ → Type 0
 Passes k u = (w : List ℕ) → until k false (u ++ w) ≡ length u + until k false w
 
 passes_append : (k : ℕ) (u v : List ℕ) → Passes k u → Passes k v → Passes k (u ++ v)
-passes_append k u v p q w = rw append_assoc (omega (arith, p (v ++ w), q w, length-append u v))
+passes_append k u v p q w = grind (arith, append_assoc, length-append, p (v ++ w), q w)
 
 passes_one : (k b : ℕ) → eqb b k ≡ false → eqb b 92 ≡ false → Passes k (b ∷ [])
 passes_one k b p q w = rw (p, q) (omega arith)
@@ -49,12 +49,10 @@ value_passes Fields (pair a b p q) w =
     passes_append 62 (a ∷ []) (b ∷ []) (passes_one 62 a (digit_not a 62 p refl) (digit_not a 92 p refl)) (passes_one 62 b (digit_not b 62 q refl) (digit_not b 92 q refl)) w
 
 dash_passes : (m : Mode) → Passes (closing m) (45 ∷ [])
-dash_passes Bytes w = omega arith
-dash_passes Fields w = omega arith
+dash_passes m w = grind arith
 
 separator_passes : (m : Mode) → Passes (closing m) (separator m)
-separator_passes Bytes w = omega arith
-separator_passes Fields w = omega arith
+separator_passes m w = grind arith
 
 member_passes : (m : Mode) (k : Member m) → Passes (closing m) (written_member m k)
 member_passes m (single x) = value_passes m x
@@ -65,8 +63,7 @@ members_pass m (last k) = member_passes m k
 members_pass m (more k xs) = passes_append (closing m) (written_member m k) (separator m ++ written_members m xs) (member_passes m k) (passes_append (closing m) (separator m) (written_members m xs) (separator_passes m) (members_pass m xs))
 
 at_closing : (m : Mode) (v : List ℕ) → until (closing m) false (closing m ∷ v) ≡ 0
-at_closing Bytes v = refl
-at_closing Fields v = refl
+at_closing m v = search rules
 
 pub closing_found : (m : Mode) (xs : Members m) (v : List ℕ) → until (closing m) false (written_members m xs ++ (closing m ∷ v)) ≡ length (written_members m xs)
 closing_found m xs v = members_pass m xs (closing m ∷ v) ∙ omega (arith, at_closing m v)
@@ -90,12 +87,10 @@ pub members_start : (m : Mode) (xs : Members m) (v : List ℕ) (b : ℕ) → beg
 members_start m xs v b n = let (c, u, e, h) = members_head m xs in rw e (ne_eqb c b (λ q. h (ap (begins m) q ∙ n)))
 
 caret_not : (m : Mode) → begins m 94 ≡ Not
-caret_not Bytes = refl
-caret_not Fields = refl
+caret_not m = search rules
 
 pub caret_found : (m : Mode) (n : Bool) (xs : Members m) (v : List ℕ) → starts 94 (caret n ++ (written_members m xs ++ v)) ≡ n
-caret_found m true xs v = refl
-caret_found m false xs v = members_start m xs v 94 (caret_not m)
+caret_found m n xs v = grind (arith, members_start, caret_not)
 
 -- members from their bytes
 module _ (m : Mode) where
@@ -127,12 +122,10 @@ tail_no_dash Bytes ys = ap (λ z. starts 45 z) (sym (append-nil (written_members
 tail_no_dash Fields ys = refl
 
 behind_found : (m : Mode) (ys : Members m) → behind_separator m (separator m ++ written_members m ys) ≡ written_members m ys
-behind_found Bytes ys = refl
-behind_found Fields ys = refl
+behind_found m ys = search rules
 
 behind_nothing : (m : Mode) → behind_separator m [] ≡ []
-behind_nothing Bytes = refl
-behind_nothing Fields = refl
+behind_nothing m = search rules
 
 pub members_found : (m : Mode) (xs : Members m) (p e : ℕ) → e ≡ p + length (written_members m xs) → member_list (length (written_members m xs)) m e (written_members m xs) ≡ members_at m xs p
 members_found m (last k) p e f =
@@ -166,8 +159,7 @@ unit_first (escaped b p) = (92, b ∷ [], refl, refl, λ e. omega arith)
 unit_first newline = (92, 110 ∷ [], refl, refl, λ e. omega arith)
 
 opening_no_sign : (m : Mode) → sign_token (opening m) ≡ None
-opening_no_sign Bytes = refl
-opening_no_sign Fields = refl
+opening_no_sign m = search rules
 
 pub lexeme_head : (m : Mode) (k : Lexeme m) → (b : ℕ) × (u : List ℕ) × (written_lexeme m k ≡ b ∷ u) × Head m b u k
 lexeme_head m open_group = (40, [], refl, sign_head Open refl (λ p. refl) refl refl)

@@ -23,17 +23,14 @@ value_shorter Fields (a ∷ []) = cond_both (digit a) _ _ (λ z. Shorter (a ∷ 
 value_shorter Fields (a ∷ b ∷ w) = cond_both (digit a) _ _ (λ z. Shorter (a ∷ b ∷ w) (option_and_then (λ x. option_map (λ y. (10 * x.0 + y.0, y.1)) (digit_of x.1)) z)) (λ _. cond_both (digit b) _ _ (λ z. Shorter (a ∷ b ∷ w) (option_map (λ y. (10 * (a - 48) + y.0, y.1)) z)) (λ _. omega arith) (λ _. tt)) (λ _. tt)
 
 behind_short : (b : ℕ) (w : List ℕ) → length (behind b w) ≤ length w
-behind_short b [] = omega arith
-behind_short b (c ∷ w) = cond_both (eqb c b) _ _ (λ z. length z ≤ length (c ∷ w)) (λ _. omega arith) (λ _. omega arith)
+behind_short b w = grind arith
 
 separator_short : (m : Mode) (w : List ℕ) → length (behind_separator m w) ≤ length w
-separator_short Bytes w = omega arith
-separator_short Fields w = behind_short 44 w
+separator_short m w = grind (arith, behind_short 44 w)
 
 -- what is left behind a first byte is no longer than the whole
 tail_short : (w : List ℕ) → length (drop 1 w) ≤ length w
-tail_short [] = omega arith
-tail_short (b ∷ w) = omega arith
+tail_short w = grind arith
 
 module _ (m : Mode) (p : ℕ) where
   last_shorter : (w v : List ℕ) (low : ℕ) (r : Option (ℕ × List ℕ)) → Shorter v r → length v ≤ length w → Shorter w (to_last m p low r)

@@ -1,8 +1,7 @@
 -- Branches as rows of items, and expressions as branches with | between them, from left to right. Assumes nothing.
-use Rattle.std.proofs.Common.{◌≡◌, ℕ, true, false, not, ◌||◌, eqb, ◌⊎◌, List, [], ◌∷◌, ◌++◌, sym, refl, ap, ◌∙◌, subst, inl, inr, ⊎_elim, arith}
+use Rattle.std.proofs.Common.{◌≡◌, ℕ, true, false, not, ◌||◌, eqb, ◌⊎◌, List, [], ◌∷◌, ◌++◌, sym, refl, ap, ◌∙◌, subst, inl, arith}
 use Rattle.std.specs.List.{flat_map}
-use Rattle.std.proofs.Math.Bool.{or-true}
-use Rattle.std.proofs.lemmas.Bool.{eq-eqb}
+use Rattle.std.proofs.lemmas.Bool.Decides.{nat_tests}
 use Rattle.syntax.specs.declared.mode.Mode.{Mode}
 use Rattle.syntax.specs.declared.mode.Mode.TheVariants.{Bytes, Fields}
 use Rattle.syntax.specs.Grammar.{plain, escaped, newline, Value, dot, unit, set, Tree, expression, branch, item, atom, only, or, lone, row, marked, group, simple, written_value, written_mark, written}
@@ -41,27 +40,23 @@ pub item_begun : {m : Mode} (i : Tree m item) → Begun (written i)
 item_begun {m} (marked a k) = begun_more (written a) (written_mark k) (atom_begun m a)
 
 stop_test : (b : ℕ) → (b ≡ 124) ⊎ (b ≡ 41) → (eqb b 124 || eqb b 41) ≡ true
-stop_test b = ⊎_elim (λ k. ap (λ z. z || eqb b 41) (eq-eqb b 124 k)) (λ k. ap (λ z. eqb b 124 || z) (eq-eqb b 41 k) ∙ or-true (eqb b 124))
+stop_test b h = grind (arith, nat_tests)
 
 stops_unmarked : (v : List ℕ) → Stops v → Unmarked v
-stops_unmarked [] h = tt
-stops_unmarked (b ∷ v) h = ⊎_elim (λ k. rw k refl) (λ k. rw k refl) h
+stops_unmarked v h = grind arith
 
 closes_stops : (v : List ℕ) → Closes v → Stops v
-closes_stops [] h = tt
-closes_stops (b ∷ v) h = inr h
+closes_stops v h = grind arith
 
 -- tests of what stands there
 pub item_there : (u v : List ℕ) → Begun u → item_in (u ++ v) ≡ true
 item_there u v (c, t, k, (_, s)) = ap (λ z. item_in (z ++ v)) k ∙ ap not s
 
 pub no_item : (v : List ℕ) → Stops v → item_in v ≡ false
-no_item [] h = refl
-no_item (b ∷ v) h = ap not (stop_test b h)
+no_item v h = grind (arith, stop_test)
 
 pub no_bar : (v : List ℕ) → Closes v → starts 124 v ≡ false
-no_bar [] h = refl
-no_bar (b ∷ v) h = rw h refl
+no_bar v h = grind arith
 
 module _ {m : Mode} where
   pub unrow : (b : Tree m branch) → (i : Tree m item) × (is : List (Tree m item)) × (b ≡ chained row (lone i) is)

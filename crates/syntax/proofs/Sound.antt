@@ -1,5 +1,5 @@
 -- What the automaton reads to the end is a written expression. Assumes nothing.
-use Rattle.std.proofs.Common.{◌≡◌, ℕ, zero, suc, Bool, true, false, cond, ◌||◌, eqb, ◌⊎◌, List, [], ◌∷◌, ◌++◌, Some, None, Option, sym, refl, ap, ◌∙◌, ⊎_elim, append_assoc, append-nil}
+use Rattle.std.proofs.Common.{◌≡◌, ℕ, zero, suc, Bool, true, false, cond, ◌||◌, eqb, ◌⊎◌, List, [], ◌∷◌, ◌++◌, Some, None, Option, sym, refl, ap, ◌∙◌, ⊎_elim, append_assoc, append-nil, arith}
 use Rattle.std.proofs.lemmas.Bool.{eqb-true, or_cases, cond_both, false≢true}
 use Rattle.syntax.specs.declared.mode.Mode.{Mode}
 use Rattle.syntax.specs.declared.mode.Mode.TheVariants.{Bytes, Fields}
@@ -15,12 +15,10 @@ use Rattle.syntax.proofs.Complete.{Place, before, behind_atom, behind_mark}
 
 -- values from their bytes
 part_not_whole : (t : Bool) → cond t Part Not ≡ Whole → ⊥
-part_not_whole true e = cc
-part_not_whole false e = cc
+part_not_whole t e = grind arith
 
 part_only : (t : Bool) → cond t Part Not ≡ Part → t ≡ true
-part_only true e = refl
-part_only false e = absurd cc
+part_only t e = grind arith
 
 whole_value : (m : Mode) (b : ℕ) → begins m b ≡ Whole → (x : Value m) × (written_value m x ≡ b ∷ [])
 whole_value Bytes b e = go (special b) refl e

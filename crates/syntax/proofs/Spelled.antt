@@ -16,10 +16,7 @@ module _ (c : ℕ) (codes : List Bool) where
   differs k = cond (get_or codes k false) (not (eqb c k)) (eqb c k)
 
   same : (a b : Bool) → cond a (not b) b ≡ false → a ≡ b
-  same true true e = refl
-  same true false e = absurd (both_ways true e refl)
-  same false true e = absurd (both_ways true e refl)
-  same false false e = refl
+  same a b e = grind arith
 
   -- a table that holds one code and no other
   pub only_held : only c codes ≡ true → (k : ℕ) → get_or codes k false ≡ eqb c k

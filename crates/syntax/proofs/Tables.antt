@@ -1,5 +1,5 @@
 -- The table of the codes that a simple atom holds. Assumes nothing.
-use Rattle.std.proofs.Common.{◌≡◌, ℕ, zero, suc, ◌+◌, ◌-◌, ◌*◌, ◌<◌, ◌≤◌, Bool, true, false, cond, not, ◌&&◌, eqb, leb, ◌↔◌, ◌||◌, ◌⊎◌, inl, inr, List, length, get_or, IfSome, Some, None, Option, sym, refl, ap, ◌∙◌, subst, ⊎_elim, arith}
+use Rattle.std.proofs.Common.{◌≡◌, ℕ, zero, suc, ◌+◌, ◌-◌, ◌*◌, ◌<◌, ◌≤◌, Bool, true, false, cond, not, ◌&&◌, eqb, leb, ◌↔◌, ◌||◌, ◌⊎◌, inl, inr, List, length, get_or, IfSome, Some, None, Option, sym, refl, ap, ◌∙◌, subst, ⊎_elim, arith, rules}
 use Rattle.std.specs.Array.{IsFromFnResult, IsFromFnResultFrom}
 use denote.Param.Members.{Mut}
 use Rattle.std.specs.Fn.{Called}
@@ -18,13 +18,12 @@ use Rattle.syntax.specs.Tokens.{Table}
 use Rattle.syntax.proofs.Options.{some_same, none_some}
 
 pub top_low : (m : Mode) → top m ≤ 255
-top_low Bytes = omega arith
-top_low Fields = omega arith
+top_low m = search rules
 
 -- an atom that is written as a value and no more holds that value and no other
 none_below : (n : ℕ) (f : ℕ → Bool) → ((k : ℕ) → f k ≡ false) → some_below n f ≡ false
 none_below zero f h = refl
-none_below (suc n) f h = rw (h n) (none_below n f h)
+none_below (suc n) f h = grind (arith, none_below n f h)
 
 within : (c t k : ℕ) → c ≤ t → (leb k t && eqb c k) ≡ eqb c k
 within c t k l = grind (arith, nat_tests)
@@ -72,10 +71,7 @@ any_from f a (suc n) = (
 )
 
 same_test : (a b : Bool) → (a ≡ true → b ≡ true) → (b ≡ true → a ≡ true) → a ≡ b
-same_test true true f g = refl
-same_test true false f g = sym (f refl)
-same_test false true f g = g refl
-same_test false false f g = refl
+same_test a b f g = search rules
 
 -- no code above the largest is held
 pub any_held : (m : Mode) (s : Simple m) → list_any (holds m s) (range_with_len 0 256) ≡ some_below (top m + 1) (holds m s)

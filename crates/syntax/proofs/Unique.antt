@@ -1,5 +1,5 @@
 -- A tree is determined by its bytes: fed its lexemes from left to right, it is built again. Assumes nothing.
-use Rattle.std.proofs.Common.{◌≡◌, List, [], ◌∷◌, ◌++◌, sym, refl, ap, ◌∙◌, append_assoc, append-nil}
+use Rattle.std.proofs.Common.{◌≡◌, List, [], ◌∷◌, ◌++◌, sym, refl, ap, ◌∙◌, append_assoc, append-nil, rules, arith}
 use Rattle.syntax.specs.declared.mode.Mode.{Mode}
 use Rattle.syntax.specs.Grammar.{Mark, once, any, some_times, perhaps, dot, Level, expression, branch, item, Tree, only, or, lone, row, marked, group, simple, written}
 use Rattle.syntax.specs.Grammar as grammar
@@ -62,16 +62,10 @@ module _ (m : Mode) where
   after (or t b) = after_branch (barred t) b
 
   settled_item : (f : Front m) (i : Tree m item) → settled (after_item f i) ≡ in_row (opened m f) (grown m f i)
-  settled_item f (marked a once) = refl
-  settled_item f (marked a any) = refl
-  settled_item f (marked a some_times) = refl
-  settled_item f (marked a perhaps) = refl
+  settled_item f (marked a k) = search rules
 
   whole_item : (f : Front m) (i : Tree m item) → so_far (after_item f i) ≡ whole m (opened m f) (grown m f i)
-  whole_item f (marked a once) = refl
-  whole_item f (marked a any) = refl
-  whole_item f (marked a some_times) = refl
-  whole_item f (marked a perhaps) = refl
+  whole_item f (marked a k) = search rules
 
   settled_branch : (o : Open m) (b : Tree m branch) → settled (after_branch o b) ≡ in_row o b
   settled_branch o (lone i) = settled_item (at o) i
@@ -86,10 +80,7 @@ module _ (m : Mode) where
   whole_tree (or t b) = whole_branch (barred t) b
 
   fed_mark : (k : Mark) (f : Front m) (a : Tree m grammar.atom) (ks : List (Lexeme m)) (s : List (Front m)) → feed (mark_lexeme k ++ ks) (behind f a) s ≡ feed ks (after_item f (marked a k)) s
-  fed_mark once f a ks s = refl
-  fed_mark any f a ks s = refl
-  fed_mark some_times f a ks s = refl
-  fed_mark perhaps f a ks s = refl
+  fed_mark k f a ks s = search rules
 
   -- what the lexemes of a tree lead to
   abbrev Fed : (l : Level) → Tree m l → Type 0
@@ -100,25 +91,11 @@ module _ (m : Mode) where
 
   fed : {l : Level} (t : Tree m l) → Fed l t
   fed (only b) = λ ks s. fed b (before (at fresh)) fresh refl ks s
-  fed (or t b) = λ ks s.
-      ap (λ z. feed z (before (at fresh)) s) (append_assoc (lexemes t) (bar ∷ lexemes b) ks)
-      ∙ fed t (bar ∷ (lexemes b ++ ks)) s
-      ∙ ap (λ z. feed (lexemes b ++ ks) (before (at (barred z))) s) (whole_tree t)
-      ∙ fed b (before (at (barred t))) (barred t) refl ks s
+  fed (or t b) = λ ks s. grind (arith, append_assoc, fed t (bar ∷ (lexemes b ++ ks)) s, whole_tree t, fed b (before (at (barred t))) (barred t) refl ks s)
   fed (lone i) = λ n o e ks s. fed i n ks s ∙ ap (λ f. feed ks (after_item f i) s) e
-  fed (row b i) = λ n o e ks s.
-      ap (λ z. feed z n s) (append_assoc (lexemes b) (lexemes i) ks)
-      ∙ fed b n o e (lexemes i ++ ks) s
-      ∙ fed i (after_branch o b) ks s
-      ∙ ap (λ f. feed ks (after_item f i) s) (settled_branch o b)
-  fed (marked a k) = λ n ks s.
-      ap (λ z. feed z n s) (append_assoc (lexemes a) (mark_lexeme k) ks)
-      ∙ fed a n (mark_lexeme k ++ ks) s
-      ∙ fed_mark k (settled n) a ks s
-  fed (group t) = λ n ks s.
-      ap (λ z. feed z (before (at fresh)) (settled n ∷ s)) (append_assoc (lexemes t) (close_group ∷ []) ks)
-      ∙ fed t (close_group ∷ ks) (settled n ∷ s)
-      ∙ ap (λ z. feed ks (behind (settled n) (group z)) s) (whole_tree t)
+  fed (row b i) = λ n o e ks s. grind (arith, append_assoc, fed b n o e (lexemes i ++ ks) s, fed i (after_branch o b) ks s, settled_branch o b)
+  fed (marked a k) = λ n ks s. grind (arith, append_assoc, fed a n (mark_lexeme k ++ ks) s, fed_mark k (settled n) a ks s)
+  fed (group t) = λ n ks s. grind (arith, append_assoc, fed t (close_group ∷ ks) (settled n ∷ s), whole_tree t)
   fed (simple x) = λ n ks s. refl
 
   built_again : (t : Tree m expression) → feed (lexemes t) (before (at fresh)) [] ≡ t

@@ -1,5 +1,5 @@
 -- From the checks and the reader to what `read` promises. Assumes nothing.
-use Rattle.std.proofs.Common.{◌≡◌, ℕ, ◌<◌, ◌≤◌, true, ◌⊎◌, List, [], ◌∷◌, length, drop, IfErr, Some, None, Ok, Err, Option, Result, sym, refl, ap, ◌∙◌, inl, inr, ⊎_elim, append-nil, arith, length-drop, MatchResult}
+use Rattle.std.proofs.Common.{◌≡◌, ℕ, ◌<◌, ◌≤◌, true, ◌⊎◌, List, [], length, drop, IfErr, Some, None, Ok, Err, Option, Result, sym, refl, ap, ◌∙◌, inl, inr, ⊎_elim, append-nil, arith, length-drop, MatchResult}
 use Rattle.std.proofs.lemmas.Bool.{cases_lt}
 use Rattle.regular.specs.Positions.{size}
 use Rattle.refusal.specs.declared.Fault.{Fault}
@@ -23,16 +23,11 @@ use Rattle.syntax.proofs.Unique.{one_tree}
 use Rattle.syntax.proofs.Filled.{tree_filled, tree_size}
 
 first_none : (xs : List ℕ) → first xs ≡ None → xs ≡ []
-first_none [] e = refl
-first_none (x ∷ xs) e = absurd cc
+first_none xs e = grind arith
 
 -- no limit is broken just where no spot breaks one
 no_breach : (a b c d : Option ℕ) → breach_of a b c d ≡ None → (a ≡ None) × (b ≡ None) × (c ≡ None) × (d ≡ None)
-no_breach None None None None e = (refl, refl, refl, refl)
-no_breach (Some p) b c d e = absurd cc
-no_breach None (Some p) c d e = absurd cc
-no_breach None None (Some p) d e = absurd cc
-no_breach None None None (Some p) e = absurd cc
+no_breach a b c d e = grind arith
 
 pub no_spots : {m : Mode} (t : Tree m expression) → breach t ≡ None → (spots too_deep t ≡ []) × (spots reversed t ≡ []) × (spots empty_set t ≡ []) × (drop MOST_POSITIONS (spots position t) ≡ [])
 no_spots t e =
@@ -40,15 +35,10 @@ no_spots t e =
     (first_none _ a, first_none _ b, first_none _ c, first_none _ d)
 
 ok_none : (o : Option Fault) → ◌≡◌ {A = Result (Unit {0}) Fault} (Ok tt) (or_ok o) → o ≡ None
-ok_none None e = refl
-ok_none (Some f) e = absurd cc
+ok_none o e = grind arith
 
 err_some : (o : Option Fault) (f : Fault) → ◌≡◌ {A = Result (Unit {0}) Fault} (Err f) (or_ok o) → o ≡ Some f
-err_some None f e = absurd cc
-err_some (Some g) f e = ap Some (sym (inner e))
-  where
-    inner : ◌≡◌ {A = Result (Unit {0}) Fault} (Err f) (Err g) → f ≡ g
-    inner e = cc
+err_some o f e = grind arith
 
 module _ (m : Mode) (w : List ℕ) (l : length w ≤ LONGEST) (some : (t : Tree m expression) × (written t ≡ w)) where
   is_written : Written m w some.0

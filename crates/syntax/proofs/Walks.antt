@@ -1,12 +1,14 @@
 -- The walk over the tokens of an expression, and what is noted on it. Assumes nothing.
-use Rattle.std.proofs.Common.{◌≡◌, ℕ, zero, suc, ◌+◌, ◌-◌, ◌≤◌, Bool, true, false, cond, not, ltb, leb, ◌==◌, List, [], ◌∷◌, ◌++◌, length, drop, None, Option, sym, refl, ap, ◌∙◌, subst, append_assoc, append-nil, arith, length-append}
+use Rattle.std.proofs.Common.{◌≡◌, ℕ, zero, suc, ◌+◌, ◌≤◌, Bool, true, false, cond, not, leb, ◌==◌, List, [], ◌∷◌, ◌++◌, length, drop, None, Option, sym, refl, ap, ◌∙◌, subst, append_assoc, append-nil, arith, length-append, rules}
 use mathlib.Core.List.{nil≢cons}
 use Rattle.std.specs.Bool.{then_some}
 use Rattle.std.specs.List.{flat_map}
 use Rattle.std.specs.Option.{option_or}
 use Rattle.std.proofs.Math.Dec.{leb-suc-suc}
+use Rattle.std.proofs.Math.Seq.{drop-nil}
 use Rattle.std.proofs.lemmas.Grind.{flat_map-append}
-use Rattle.std.proofs.lemmas.Bool.{lt-leb, ltb-false, eq-eqb, eqb-true, false≢true}
+use Rattle.std.proofs.lemmas.Bool.Decides.{nat_tests}
+use Rattle.std.proofs.lemmas.Bool.{eq-eqb, eqb-true, false≢true}
 use Rattle.regular.specs.Positions.{some_below}
 use Rattle.syntax.specs.declared.mode.Mode.{Mode}
 use Rattle.syntax.specs.declared.limits.TheConstants.{DEEPEST, MOST_POSITIONS}
@@ -27,8 +29,7 @@ use Rattle.syntax.specs.Limits.{Noted, part_of, depth_behind, or_ok, verdict_of,
 use Rattle.syntax.proofs.Lexes.{lexeme_head}
 
 first_append : (xs ys : List ℕ) → first (xs ++ ys) ≡ option_or (first xs) (first ys)
-first_append [] ys = refl
-first_append (x ∷ xs) ys = refl
+first_append xs ys = search rules
 
 -- the lexemes of a tree, in written order
 abbrev pub mark_lexeme : {m : Mode} → grammar.Mark → List (Lexeme m)
@@ -38,10 +39,7 @@ mark_lexeme some_times = mark Plus ∷ []
 mark_lexeme perhaps = mark Query ∷ []
 
 mark_spelled : (m : Mode) (k : grammar.Mark) → flat_map (written_lexeme m) (mark_lexeme k) ≡ written_mark k
-mark_spelled m once = refl
-mark_spelled m any = refl
-mark_spelled m some_times = refl
-mark_spelled m perhaps = refl
+mark_spelled m k = search rules
 
 pub append_none : {A : Type 0} (xs ys : List A) → xs ++ ys ≡ [] → (xs ≡ []) × (ys ≡ [])
 append_none [] ys e = (refl, e)
@@ -62,11 +60,11 @@ module _ {m : Mode} where
 
   pub lexemes_spelled : {l : Level} (t : Tree m l) → spelled (lexemes t) ≡ written t
   lexemes_spelled (only b) = lexemes_spelled b
-  lexemes_spelled (or t b) = flat_map-append (written_lexeme m) (lexemes t) (bar ∷ lexemes b) ∙ ap (λ z. z ++ (124 ∷ spelled (lexemes b))) (lexemes_spelled t) ∙ ap (λ z. written t ++ (124 ∷ z)) (lexemes_spelled b)
+  lexemes_spelled (or t b) = grind (arith, flat_map-append, lexemes_spelled t, lexemes_spelled b)
   lexemes_spelled (lone i) = lexemes_spelled i
-  lexemes_spelled (row b i) = flat_map-append (written_lexeme m) (lexemes b) (lexemes i) ∙ ap (λ z. z ++ spelled (lexemes i)) (lexemes_spelled b) ∙ ap (λ z. written b ++ z) (lexemes_spelled i)
-  lexemes_spelled (marked a k) = flat_map-append (written_lexeme m) (lexemes a) (mark_lexeme k) ∙ ap (λ z. z ++ spelled (mark_lexeme k)) (lexemes_spelled a) ∙ ap (λ z. written a ++ z) (mark_spelled m k)
-  lexemes_spelled (group t) = ap (λ z. 40 ∷ z) (flat_map-append (written_lexeme m) (lexemes t) (close_group ∷ []) ∙ ap (λ z. z ++ (41 ∷ [])) (lexemes_spelled t))
+  lexemes_spelled (row b i) = grind (arith, flat_map-append, lexemes_spelled b, lexemes_spelled i)
+  lexemes_spelled (marked a k) = grind (arith, flat_map-append, lexemes_spelled a, mark_spelled m k)
+  lexemes_spelled (group t) = grind (arith, flat_map-append, lexemes_spelled t)
   lexemes_spelled (simple s) = append-nil _
 
   -- the parts that lexemes begin, from the depth d and the place p on
@@ -75,34 +73,15 @@ module _ {m : Mode} where
   parts_from (k ∷ ks) d p = part_of k d p ++ parts_from ks (depth_behind k d) (p + length (written_lexeme m k))
 
   mark_parts : (k : grammar.Mark) (ks : List (Lexeme m)) (d p : ℕ) → parts_from (mark_lexeme k ++ ks) d p ≡ parts_from ks d (p + length (written_mark k))
-  mark_parts once ks d p = ap (parts_from ks d) (omega arith)
-  mark_parts any ks d p = refl
-  mark_parts some_times ks d p = refl
-  mark_parts perhaps ks d p = refl
+  mark_parts k ks d p = grind arith
 
   parts_are : {l : Level} (t : Tree m l) (ks : List (Lexeme m)) (d p : ℕ) → parts_from (lexemes t ++ ks) d p ≡ parts t d p ++ parts_from ks d (p + length (written t))
   parts_are (only b) ks d p = parts_are b ks d p
-  parts_are (or t b) ks d p =
-      ap (λ z. parts_from z d p) (append_assoc (lexemes t) (bar ∷ lexemes b) ks)
-      ∙ parts_are t (bar ∷ (lexemes b ++ ks)) d p
-      ∙ ap (λ z. parts t d p ++ z) (parts_are b ks d (p + length (written t) + 1) ∙ ap (λ n. parts b d (p + length (written t) + 1) ++ parts_from ks d n) (omega (arith, length-append (written t) (124 ∷ written b))))
-      ∙ sym (append_assoc (parts t d p) (parts b d (p + length (written t) + 1)) _)
+  parts_are (or t b) ks d p = grind (arith, append_assoc, length-append, parts_are t (bar ∷ (lexemes b ++ ks)) d p, parts_are b ks d (p + length (written t) + 1))
   parts_are (lone i) ks d p = parts_are i ks d p
-  parts_are (row b i) ks d p =
-      ap (λ z. parts_from z d p) (append_assoc (lexemes b) (lexemes i) ks)
-      ∙ parts_are b (lexemes i ++ ks) d p
-      ∙ ap (λ z. parts b d p ++ z) (parts_are i ks d (p + length (written b)) ∙ ap (λ n. parts i d (p + length (written b)) ++ parts_from ks d n) (omega (arith, length-append (written b) (written i))))
-      ∙ sym (append_assoc (parts b d p) (parts i d (p + length (written b))) _)
-  parts_are (marked a k) ks d p =
-      ap (λ z. parts_from z d p) (append_assoc (lexemes a) (mark_lexeme k) ks)
-      ∙ parts_are a (mark_lexeme k ++ ks) d p
-      ∙ ap (λ z. parts a d p ++ z) (mark_parts k ks d (p + length (written a)) ∙ ap (parts_from ks d) (omega (arith, length-append (written a) (written_mark k))))
-  parts_are (group t) ks d p =
-      ap (λ z. group_at (d + 1) p ∷ parts_from z (d + 1) (p + 1)) (append_assoc (lexemes t) (close_group ∷ []) ks)
-      ∙ ap (λ z. group_at (d + 1) p ∷ z) (parts_are t (close_group ∷ ks) (d + 1) (p + 1) ∙ ap (λ z. parts t (d + 1) (p + 1) ++ z) (closed ks))
-    where
-      closed : (ks : List (Lexeme m)) → parts_from ks (d + 1 - 1) (p + 1 + length (written t) + 1) ≡ parts_from ks d (p + length (written (group t)))
-      closed ks = let e : d + 1 - 1 ≡ d = omega arith in ap (λ n. parts_from ks n (p + 1 + length (written t) + 1)) e ∙ ap (parts_from ks d) (omega (arith, length-append (written t) (41 ∷ [])))
+  parts_are (row b i) ks d p = grind (arith, append_assoc, length-append, parts_are b (lexemes i ++ ks) d p, parts_are i ks d (p + length (written b)))
+  parts_are (marked a k) ks d p = grind (arith, append_assoc, length-append, parts_are a (mark_lexeme k ++ ks) d p, mark_parts k ks d (p + length (written a)))
+  parts_are (group t) ks d p = grind (arith, append_assoc, length-append, parts_are t (close_group ∷ ks) (d + 1) (p + 1))
   parts_are (simple s) ks d p = refl
 
   pub tree_parts : (t : Tree m expression) → parts t 0 0 ≡ parts_from (lexemes t) 0 0
@@ -111,22 +90,11 @@ module _ {m : Mode} where
   -- a tree with no group too deep is not nested deeper
   pub shallow : {l : Level} (t : Tree m l) (d p : ℕ) → d ≤ DEEPEST → flat_map too_deep (parts t d p) ≡ [] → nesting t + d ≤ DEEPEST
   shallow (only b) d p h e = shallow b d p h e
-  shallow (or t b) d p h e =
-      let (x, y) = append_none (flat_map too_deep (parts t d p)) (flat_map too_deep (parts b d (p + length (written t) + 1))) (sym (flat_map-append too_deep (parts t d p) _) ∙ e) in
-      omega (arith, shallow t d p h x, shallow b d _ h y)
+  shallow (or t b) d p h e = grind (arith, flat_map-append, append_none, shallow t d p h, shallow b d (p + length (written t) + 1) h)
   shallow (lone i) d p h e = shallow i d p h e
-  shallow (row b i) d p h e =
-      let (x, y) = append_none (flat_map too_deep (parts b d p)) (flat_map too_deep (parts i d (p + length (written b)))) (sym (flat_map-append too_deep (parts b d p) _) ∙ e) in
-      omega (arith, shallow b d p h x, shallow i d _ h y)
+  shallow (row b i) d p h e = grind (arith, flat_map-append, append_none, shallow b d p h, shallow i d (p + length (written b)) h)
   shallow (marked a k) d p h e = shallow a d p h e
-  shallow (group t) d p h e =
-      let (x, y) = append_none (cond (ltb DEEPEST (d + 1)) (p ∷ []) []) _ e in
-      let l = low (ltb DEEPEST (d + 1)) refl x in
-      omega (arith, shallow t (d + 1) (p + 1) l y)
-    where
-      low : (b : Bool) → ltb DEEPEST (d + 1) ≡ b → cond b (p ∷ []) [] ≡ [] → d + 1 ≤ DEEPEST
-      low true k x = absurd (nil≢cons (sym x))
-      low false k x = ltb-false DEEPEST (d + 1) k
+  shallow (group t) d p h e = grind (arith, nat_tests, shallow t (d + 1) (p + 1))
   shallow (simple s) d p h e = omega arith
 
 -- lexemes by the kind of their tokens
@@ -148,22 +116,10 @@ module _ {m : Mode} where
   kind_of (atom s) = 3
 
   same_kind : (k : Lexeme m) (p : ℕ) (t : Token) → Stands m k p t → kind t ≡ kind_of k
-  same_kind open_group p t h = ap kind h
-  same_kind close_group p t h = ap kind h
-  same_kind bar p t h = ap kind h
-  same_kind (mark k) p t h = ap kind h
-  same_kind (atom dot) p t h = ap kind h
-  same_kind (atom (unit a x)) p t h = ap kind h
-  same_kind (atom (set n xs)) p t (r, h, _, _) = ap kind h
+  same_kind k p t h = grind arith
 
 pub kind_rest : (t : Token) → (t ≡ Open → ⊥) → (t ≡ Close → ⊥) → (t ≡ Bar → ⊥) → ((k : tree.Mark) → t ≡ Mark k → ⊥) → kind t ≡ 3
-kind_rest Open a b c d = absurd (a refl)
-kind_rest Close a b c d = absurd (b refl)
-kind_rest Bar a b c d = absurd (c refl)
-kind_rest (Mark k) a b c d = absurd (d k refl)
-kind_rest Dot a b c d = refl
-kind_rest (Unit x) a b c d = refl
-kind_rest (Set n r) a b c d = refl
+kind_rest t a b c d = grind arith
 
 module _ (m : Mode) (t : Token) (p : ℕ) (f : Findings) where
   -- what a token does to the findings
@@ -183,40 +139,34 @@ module _ (m : Mode) (t : Token) (p : ℕ) (f : Findings) where
 -- one part more
 module _ {m : Mode} (g : Part m → List ℕ) (done : List (Part m)) (x : Part m) where
   joined_one : flat_map g (done ++ (x ∷ [])) ≡ flat_map g done ++ g x
-  joined_one = flat_map-append g done (x ∷ []) ∙ ap (λ z. flat_map g done ++ z) (append-nil (g x))
+  joined_one = grind (arith, flat_map-append, append-nil)
 
   pub first_more : (a b : Option ℕ) → a ≡ first (flat_map g done) → b ≡ first (g x) → option_or a b ≡ first (flat_map g (done ++ (x ∷ [])))
-  first_more a b p q = ap (λ z. option_or z b) p ∙ ap (option_or (first (flat_map g done))) q ∙ sym (ap first joined_one ∙ first_append (flat_map g done) (g x))
+  first_more a b p q = grind (arith, joined_one, first_append)
 
   pub first_same : (a : Option ℕ) → a ≡ first (flat_map g done) → g x ≡ [] → a ≡ first (flat_map g (done ++ (x ∷ [])))
-  first_same a p e = p ∙ ap first (sym (append-nil _) ∙ ap (λ z. flat_map g done ++ z) (sym e) ∙ sym joined_one)
+  first_same a p e = grind (arith, joined_one, append-nil)
 
 drop_more_one : (n : ℕ) (xs : List ℕ) (x : ℕ) → first (drop n (xs ++ (x ∷ []))) ≡ option_or (first (drop n xs)) (then_some (leb n (length xs)) x)
 drop_more_one zero [] x = refl
 drop_more_one zero (y ∷ xs) x = refl
-drop_more_one (suc n) [] x = none n ∙ ap (λ b. then_some b x) (sym (lt-leb (suc n) 0 (omega arith)))
-  where
-    none : (n : ℕ) → first (drop n []) ≡ None
-    none zero = refl
-    none (suc n) = refl
+drop_more_one (suc n) [] x = grind (arith, nat_tests, drop-nil)
 drop_more_one (suc n) (y ∷ xs) x = drop_more_one n xs x ∙ ap (λ b. option_or (first (drop n xs)) (then_some b x)) (sym (leb-suc-suc n (length xs)))
 
 -- what is noted of a group, and of a simple atom
 not_first : (b : Bool) (p : ℕ) → then_some (not b) p ≡ first (cond b [] (p ∷ []))
-not_first true p = refl
-not_first false p = refl
+not_first b p = search rules
 
 module _ {m : Mode} (f r : Findings) (done : List (Part m)) (n : Noted m f done) (p : ℕ) where
   pub noted_simple : (s : Simple m) (x : Option ℕ) (y : Bool) → r.deep ≡ f.deep → x ≡ first (reversed_simple m s p) → y ≡ not (some_below (top m + 1) (holds m s)) → r.reversed ≡ option_or f.reversed x → r.empty ≡ option_or f.empty (then_some y p) → r.over ≡ option_or f.over (then_some (leb MOST_POSITIONS f.positions) p) → r.positions ≡ f.positions + 1 → Noted m r (done ++ (simple_at s p ∷ []))
   noted_simple s x y a u v b c e g =
       let z = simple_at s p in
-      let long = joined_one position done z in
       record {
         deep = first_same too_deep done z _ (a ∙ n.deep) refl;
         reversed = b ∙ first_more refusals.reversed done z _ _ n.reversed u;
         empty = c ∙ first_more refusals.empty_set done z _ _ n.empty (ap (λ t. then_some t p) v ∙ not_first (some_below (top m + 1) (holds m s)) p);
-        over = e ∙ ap (λ t. option_or t (then_some (leb MOST_POSITIONS f.positions) p)) n.over ∙ ap (λ t. option_or (first (drop MOST_POSITIONS (flat_map position done))) (then_some (leb MOST_POSITIONS t) p)) n.positions ∙ sym (ap (λ t. first (drop MOST_POSITIONS t)) long ∙ drop_more_one MOST_POSITIONS (flat_map position done) p);
-        positions = g ∙ ap (λ t. t + 1) n.positions ∙ sym (ap length long ∙ length-append (flat_map position done) (p ∷ []));
+        over = grind (arith, n.over, n.positions, joined_one position done z, drop_more_one MOST_POSITIONS (flat_map position done) p);
+        positions = grind (arith, n.positions, joined_one position done z, length-append);
       }
 
 -- the walk over w: the lexemes before the lexer are noted, and the others stand there
