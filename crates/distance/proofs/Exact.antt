@@ -192,8 +192,8 @@ module _ (r : Regex) (h : Inhabited r) (codes : ℕ) (B : Bounded r codes) (m k 
     lesser_like : (w x : List ℕ) (n : ℕ) → SameKinds r w x → OfKinds r codes x → Lesser r k w n → value x ≡ finite n
     lesser_like w x n like c (d, e, D, E, is) =
         let back = like_back r w x like in
-        let one = least_if_one (Inside r k x) (first_of found x) d (first_exact x c) (least_if_like (Inside r k w) (Inside r k x) (λ i. (inside_like w x like i, inside_like x w back i)) d D) in
-        let two = least_if_one (Past r k x) (finite (second_of k found x)) e (second_exact x c) (least_if_like (Past r k w) (Past r k x) (λ i. (past_like w x like i, past_like x w back i)) e E) in
+        let one = least_if_one (Inside r k x) _ d (first_exact x c) (least_if_like (Inside r k w) _ (λ i. (inside_like w x like i, inside_like x w back i)) d D) in
+        let two = least_if_one (Past r k x) _ e (second_exact x c) (least_if_like (Past r k w) _ (λ i. (past_like w x like i, past_like x w back i)) e E) in
         ap₂ lesser one two ∙ is
 
     -- t of q is found on the list

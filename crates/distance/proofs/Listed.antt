@@ -154,12 +154,7 @@ when_is b d n = grind arith
 pub least_of_is : (f : List ℕ → Distance) (ws : List (List ℕ)) → LeastIfAny (λ n. (w : List ℕ) × Member w ws × (f w ≡ finite n)) (least_of f ws)
 least_of_is f [] = λ n (w, m, _). m
 least_of_is f (x ∷ ws) =
-    least_if_like
-    (λ n. (f x ≡ finite n) ⊎ ((w : List ℕ) × Member w ws × (f w ≡ finite n)))
-    (λ n. (w : List ℕ) × Member w (x ∷ ws) × (f w ≡ finite n))
-    (λ n. some_member (λ w. f w ≡ finite n) x ws)
-    (lesser (f x) (least_of f ws))
-    (lesser_both (λ n. f x ≡ finite n) (λ n. (w : List ℕ) × Member w ws × (f w ≡ finite n)) (f x) (least_of f ws) (self_least (f x)) (least_of_is f ws))
+    least_if_like _ _ (λ n. some_member (λ w. f w ≡ finite n) x ws) _ (lesser_both _ _ (f x) (least_of f ws) (self_least (f x)) (least_of_is f ws))
 
 pub lesser_none : (d : Distance) → lesser d infinite ≡ d
 lesser_none d = grind arith
