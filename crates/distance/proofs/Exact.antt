@@ -89,7 +89,7 @@ module _ (r : Regex) (h : Inhabited r) (codes : ℕ) (B : Bounded r codes) (m k 
 
   pub first_exact : (v : List ℕ) → OfKinds r codes v → First r k v (first_of found v)
   first_exact v g =
-      least_if_like (λ n. (w : List ℕ) × Member w found × (beyond v w ≡ finite n)) (Inside r k v)
+      least_if_like (λ n. (w : List ℕ) × Member w found × (beyond v w ≡ finite n)) _
       (λ n. (
         λ (w, m, e).
             let (l, (x, long, is)) = (beyond_is v w n).0 e in
