@@ -1,15 +1,15 @@
 -- Codes of one kind, and the words of kinds that stand for words. Assumes nothing.
-use Rattle.std.proofs.Common.{◌≡◌, ℕ, zero, suc, ◌+◌, ◌<◌, ◌≤◌, Bool, true, false, cond, ◌&&◌, ◌⊎◌, ◌↔◌, List, [], ◌∷◌, ◌++◌, length, sym, refl, ap, ◌∙◌, ap₂, inl, inr, ⊎_elim, arith}
+use Rattle.std.proofs.Common.{◌≡◌, ℕ, zero, suc, ◌+◌, ◌<◌, ◌≤◌, Bool, true, false, cond, not, ◌&&◌, ◌↔◌, List, [], ◌∷◌, ◌++◌, length, sym, refl, ap, ◌∙◌, ap₂, ⊎_elim, arith}
 use mathlib.Core.Path.{fun_ext}
 use mathlib.Core.Logic.Iff.{rfl as same}
-use Rattle.std.proofs.lemmas.Bool.{cases_Bool}
-use Rattle.std.proofs.lemmas.Bool.Decides.{Decides-below_and, same_from_decides}
+use Rattle.std.proofs.lemmas.Bool.Decides.{Decides-not, Decides-below_and, same_from_decides}
 use Rattle.regular.specs.Language.{Regex, one, join, either, star, plus, maybe}
 use Rattle.regular.specs.Positions.{size, holds, some_below, arrow, reached, tailed}
 use Rattle.distance.specs.Kinds.{OneKind, SameKinds}
 use Rattle.distance.specs.Found.{Within, alike_below, alike, first_alike}
 use Rattle.regular.proofs.Iff.{◌⨾◌, and_true, or_true}
 use Rattle.regular.proofs.Written.{holds_out}
+use Rattle.distance.proofs.Least.{search_least}
 use Rattle.regular.proofs.Reading.{some_below_is}
 
 agree : (x y : Bool) → cond x y (cond y false true) ≡ true ↔ x ≡ y
@@ -46,26 +46,16 @@ module _ (r : Regex) where
       go f zero = grind (arith, holds_out r 0 0 c, holds_out r 0 0 d)
       go f (suc n) = grind (arith, f n, holds_out r 0 (suc n) c, holds_out r 0 (suc n) d)
 
-  -- some code below n is of c's kind, or none is
-  first_cases : (c n : ℕ) → (first_alike r c n ≡ true) ⊎ ((d : ℕ) × (d < n) × OneKind r d c)
-  first_cases c zero = inl refl
-  first_cases c (suc n) = elim (cases_Bool (alike r n c)) [ inl e ↦ inr (n, omega arith, (alike_is n c).0 e) | inr e ↦ rw e (⊎_elim inl (λ (d, l, s). inr (d, omega arith, s)) (first_cases c n)) ]
-
-  pub first_not : (c d : ℕ) → OneKind r d c → (n : ℕ) → d < n → first_alike r c n ≡ true → ⊥
-  first_not c d s zero l h = omega arith
-  first_not c d s (suc n) l h = grind (arith, first_not c d s n, (alike_is d c).1 s)
+  pub first_is : (c n : ℕ) → first_alike r c n ≡ true ↔ ((d : ℕ) → d < n → OneKind r d c → ⊥)
+  first_is c n = Decides-below_and (λ d. not (alike r d c)) (λ d. OneKind r d c → ⊥) (first_alike r c) (λ d. Decides-not _ (alike_is d c)) refl (λ d. grind arith) n
 
   -- the code that stands for a kind
   pub stands : (c : ℕ) → (d : ℕ) × (d ≤ c) × OneKind r c d × (first_alike r d d ≡ true)
-  stands c = go (suc c) c (omega arith)
-    where
-      go : (m c : ℕ) → c < m → (d : ℕ) × (d ≤ c) × OneKind r c d × (first_alike r d d ≡ true)
-      go zero c l = absurd (omega arith)
-      go (suc m) c l =
-          ⊎_elim
-          (λ f. (c, omega arith, λ q. refl, f))
-          (λ (b, below, s). let (d, k, t, f) = go m b (omega arith) in (d, omega arith, λ q. sym (s q) ∙ t q, f))
-          (first_cases c c)
+  stands c =
+      let own = (alike_is c c).1 (λ q. refl) in
+      let (d, (k, least)) = search_least (alike r c) c own in
+      let s = (alike_is c d).0 k in
+      (d, least c own, s, (first_is d d).1 (λ b below t. omega (arith, least b ((alike_is c b).1 (λ q. s q ∙ sym (t q))))))
 
   pub like_same : (v : List ℕ) → SameKinds r v v
   like_same [] = tt

@@ -1,11 +1,11 @@
 -- The numbers reckoned from the list of tails are the distances. Assumes nothing.
-use Rattle.std.proofs.Common.{◌≡◌, ℕ, ◌+◌, ◌-◌, ◌<◌, ◌≤◌, min, max, Bool, true, false, cond, ◌&&◌, ◌||◌, eqb, ltb, ◌↔◌, List, [], ◌∷◌, ◌++◌, length, take, replicate, sym, refl, ap, ◌∙◌, subst, ap₂, ⊎_elim, append_assoc, append-nil, arith, length-append}
+use Rattle.std.proofs.Common.{◌≡◌, ℕ, ◌+◌, ◌-◌, ◌<◌, ◌≤◌, min, max, Bool, true, false, cond, ◌&&◌, ◌||◌, eqb, ltb, ◌↔◌, List, [], ◌∷◌, ◌++◌, length, take, replicate, sym, refl, ap, ◌∙◌, subst, ap₂, append_assoc, append-nil, arith, length-append}
 use mathlib.Core.Logic.Iff.{and as pair}
 use mathlib.Core.Logic.Iff.{rfl as same}
 use lib.ListN.{length-replicate}
 use mathlib.Core.List.{nil≢cons}
 use Rattle.std.proofs.Math.Bool.{or-false, or_assoc}
-use Rattle.std.proofs.lemmas.Bool.{cases_lt, both_ways, false≢true}
+use Rattle.std.proofs.lemmas.Bool.{both_ways, false≢true}
 use Rattle.std.proofs.lemmas.Bool.Decides.{Decides-eqb, Decides-ltb, Decides-and, Decides-or}
 use Rattle.std.proofs.lemmas.List.Prefix.{end_rest}
 use Rattle.regular.specs.Language.{Regex, Tail, Shortest, Inhabited}
@@ -89,7 +89,7 @@ module _ (r : Regex) (h : Inhabited r) (codes : ℕ) (B : Bounded r codes) (m k 
 
   pub first_exact : (v : List ℕ) → OfKinds r codes v → First r k v (first_of found v)
   first_exact v g =
-      least_if_like (λ n. (w : List ℕ) × Member w found × (beyond v w ≡ finite n)) (Inside r k v)
+      least_if_like (λ n. (w : List ℕ) × Member w found × (beyond v w ≡ finite n)) _
       (λ n. (
         λ (w, m, e).
             let (l, (x, long, is)) = (beyond_is v w n).0 e in
@@ -160,13 +160,10 @@ module _ (r : Regex) (h : Inhabited r) (codes : ℕ) (B : Bounded r codes) (m k 
     way_exact a ((v, s, long), least) = go (way_of r found q) (least_of_is (λ w. when (reached r w q) (finite (length w))) found)
       where
         go : (d : Distance) → LeastIfAny Shorter d → min k a ≡ upto k d
-        go infinite none = ⊎_elim (λ l. omega arith) (λ l. absurd (none (length v) (way_listed v s (omega arith)))) (cases_lt k a)
+        go infinite none = grind (arith, none (length v), way_listed v s)
         go (finite n) ((w, m, e), f) =
             let (t, is) = (when_is (reached r w q) (finite (length w)) n).0 e in
-            let above = least (length w) (w, t, refl) in
-            let within = (upto_listed r codes k w m).0 in
-            let same = finite_same is in
-            omega (arith, f (length v) (way_listed v s (omega arith)))
+            grind (arith, finite_same is, least (length w) (w, t, refl), (upto_listed r codes k w m).0, f (length v), way_listed v s)
 
     -- w is of the length that q keeps, and some way on from it comes to q
     abbrev pub Listed : List ℕ → Type 0
@@ -195,8 +192,8 @@ module _ (r : Regex) (h : Inhabited r) (codes : ℕ) (B : Bounded r codes) (m k 
     lesser_like : (w x : List ℕ) (n : ℕ) → SameKinds r w x → OfKinds r codes x → Lesser r k w n → value x ≡ finite n
     lesser_like w x n like c (d, e, D, E, is) =
         let back = like_back r w x like in
-        let one = least_if_one (Inside r k x) (first_of found x) d (first_exact x c) (least_if_like (Inside r k w) (Inside r k x) (λ i. (inside_like w x like i, inside_like x w back i)) d D) in
-        let two = least_if_one (Past r k x) (finite (second_of k found x)) e (second_exact x c) (least_if_like (Past r k w) (Past r k x) (λ i. (past_like w x like i, past_like x w back i)) e E) in
+        let one = least_if_one (Inside r k x) _ d (first_exact x c) (least_if_like (Inside r k w) _ (λ i. (inside_like w x like i, inside_like x w back i)) d D) in
+        let two = least_if_one (Past r k x) _ e (second_exact x c) (least_if_like (Past r k w) _ (λ i. (past_like w x like i, past_like x w back i)) e E) in
         ap₂ lesser one two ∙ is
 
     -- t of q is found on the list

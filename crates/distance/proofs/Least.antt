@@ -18,7 +18,7 @@ module _ {P : ℕ → Type 0} where
 
 module _ (P : ℕ → Type 0) where
   pub least_if_one : (d e : Distance) → LeastIfAny P d → LeastIfAny P e → d ≡ e
-  least_if_one d e h k = grind (arith, least_one)
+  least_if_one d e h k = grind arith
 
   -- there is a distance, as far as a proof of ⊥ asks
   pub least_if_any : ((d : Distance) → LeastIfAny P d → ⊥) → ⊥
@@ -39,7 +39,7 @@ module _ (P Q : ℕ → Type 0) where
   lesser_least (finite i) (finite j) n (_, f) (_, g) s = (min i j, refl, ⊎_elim (λ p. omega (arith, f n p)) (λ q. omega (arith, g n q)) s)
 
   pub lesser_both : (d e : Distance) → LeastIfAny P d → LeastIfAny Q e → LeastIfAny (λ n. P n ⊎ Q n) (lesser d e)
-  lesser_both infinite infinite h k = λ n. ⊎_elim (h n) (k n)
+  lesser_both infinite infinite h k = grind arith
   lesser_both infinite (finite j) h k = grind arith
   lesser_both (finite i) infinite h k = grind arith
   lesser_both (finite i) (finite j) h k = grind arith

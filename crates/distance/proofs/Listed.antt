@@ -10,7 +10,7 @@ use Rattle.regular.proofs.Tails.{tails_tailed}
 use Rattle.distance.specs.Extremes.{Distance, infinite, finite, lesser, LeastIfAny}
 use Rattle.distance.specs.Kinds.{OneKind, SameKinds, Member, Apart, TailsOfKinds}
 use Rattle.distance.specs.Found.{first_alike, kinds, longer, fronted, tails, tails_upto, least_of, when}
-use Rattle.distance.proofs.Alike.{Bounded, OfKinds, first_not, like_elim, like_length, like_tailed, tailed_is, tailed_cons, chosen_tail}
+use Rattle.distance.proofs.Alike.{Bounded, OfKinds, first_is, like_elim, like_length, like_tailed, tailed_is, tailed_cons, chosen_tail}
 use Rattle.distance.proofs.Least.{self_least, lesser_both, least_if_like}
 
 pub mem_append : {A : Type 0} (w : A) (xs ys : List A) → Member w (xs ++ ys) ↔ (Member w xs ⊎ Member w ys)
@@ -118,7 +118,10 @@ module _ (r : Regex) (codes : ℕ) where
 -- two words of least codes that are the same word of kinds are equal
 module _ (r : Regex) (codes : ℕ) where
   least_same : (c d : ℕ) → first_alike r c c ≡ true → first_alike r d d ≡ true → OneKind r c d → c ≡ d
-  least_same c d f g s = grind (arith, first_not r d c s d, first_not r c d (λ q. sym (s q)) c)
+  least_same c d f g s =
+      let no_less : c < d → ⊥ = λ l. (first_is r d d).0 g c l s in
+      let no_more : d < c → ⊥ = λ l. (first_is r c c).0 f d l (λ q. sym (s q)) in
+      omega arith
 
   word_same : (v w : List ℕ) → OfKinds r codes v → OfKinds r codes w → SameKinds r v w → v ≡ w
   word_same v w g h l = like_elim r (λ v w. OfKinds r codes v → OfKinds r codes w → v ≡ w) (λ _ _. refl) (λ c d v w s l e ((_, f), g) ((_, f'), h). ap₂ ◌∷◌ (least_same c d f f' s) (e g h)) v w l g h
@@ -151,12 +154,7 @@ when_is b d n = grind arith
 pub least_of_is : (f : List ℕ → Distance) (ws : List (List ℕ)) → LeastIfAny (λ n. (w : List ℕ) × Member w ws × (f w ≡ finite n)) (least_of f ws)
 least_of_is f [] = λ n (w, m, _). m
 least_of_is f (x ∷ ws) =
-    least_if_like
-    (λ n. (f x ≡ finite n) ⊎ ((w : List ℕ) × Member w ws × (f w ≡ finite n)))
-    (λ n. (w : List ℕ) × Member w (x ∷ ws) × (f w ≡ finite n))
-    (λ n. some_member (λ w. f w ≡ finite n) x ws)
-    (lesser (f x) (least_of f ws))
-    (lesser_both (λ n. f x ≡ finite n) (λ n. (w : List ℕ) × Member w ws × (f w ≡ finite n)) (f x) (least_of f ws) (self_least (f x)) (least_of_is f ws))
+    least_if_like _ _ (λ n. some_member (λ w. f w ≡ finite n) x ws) _ (lesser_both _ _ (f x) (least_of f ws) (self_least (f x)) (least_of_is f ws))
 
 pub lesser_none : (d : Distance) → lesser d infinite ≡ d
 lesser_none d = grind arith

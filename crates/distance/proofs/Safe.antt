@@ -44,14 +44,14 @@ module _ (r : Regex) (m k : ℕ) (S : Shortest r m) (le : k ≤ m) where
       none (length x) lt (near_end r k (u ++ t) w x (y ++ take (length f - k) f) (last k f) (word_full r k f word (omega (arith, S.least f word))) text l)
 
   positive : (w : List ℕ) (h : ℕ) → Lesser r k w h → 1 ≤ h
-  positive w h (d, e, D, E, is) = ⊎_elim (λ i. i.0) (λ p. p.0) (lesser_is (Inside r k w) (Past r k w) d e h D E is)
+  positive w h (d, e, D, E, is) = ⊎_elim (λ i. i.0) (λ p. p.0) (lesser_is _ _ d e h D E is)
 
   pub lesser_far : (h : ℕ) (v : List ℕ) → Lesser r k v h → (1 ≤ h) × NothingWithin r v h
   lesser_far h v L = (
     positive v h L,
     far h v [] v refl (λ n lt s.
         let (d, e, D, E, is) = L in
-        let (j, jis, jl) = lesser_least (Inside r k v) (Past r k v) d e n D E s in
+        let (j, jis, jl) = lesser_least _ _ d e n D E s in
         omega (arith, finite_same (sym jis ∙ is))),
   )
 
@@ -60,7 +60,7 @@ module _ (r : Regex) (m k : ℕ) (S : Shortest r m) (le : k ≤ m) where
     positive u h L,
     far h v (take (length v - min k a) v) w (last_split (min k a) v) (λ n lt s.
         least_if_any (Inside r k w) λ d D. least_if_any (Past r k w) λ e E.
-        let (j, is, jl) = lesser_least (Inside r k w) (Past r k w) d e n D E s in
+        let (j, is, jl) = lesser_least _ _ d e n D E s in
         omega (arith, least j (w, (a, v, way, leads, refl), (d, e, D, E, is)))),
   )
     where
@@ -86,16 +86,16 @@ full_length_one r k k' (m, S, D) (n, T, E) =
 
 lesser_one : (r : Regex) (k : ℕ) (v : List ℕ) (n n' : ℕ) → Lesser r k v n → Lesser r k v n' → n ≡ n'
 lesser_one r k v n n' (d, e, D, E, is) (d', e', D', E', is') =
-    let one = least_if_one (Inside r k v) d d' D D' in
-    let two = least_if_one (Past r k v) e e' E E' in
+    let one = least_if_one _ d d' D D' in
+    let two = least_if_one _ e e' E E' in
     finite_same (sym is ∙ (λ i. lesser (one i) (two i)) ∙ is')
 
 pub determined : Determined
 determined = record {
   count = count_one;
   depth = full_length_one;
-  first = λ r k v. least_if_one (Inside r k v);
-  second = λ r k v. least_if_one (Past r k v);
+  first = λ r k v. least_if_one _;
+  second = λ r k v. least_if_one _;
   nearer = lesser_one;
   position = λ r k q. least_one;
   set = λ r k S. greatest_one;

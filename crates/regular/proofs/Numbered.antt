@@ -1,5 +1,5 @@
 -- The words of positions say what the positions' functions say. Assumes nothing.
-use Rattle.std.proofs.Common.{◌≡◌, ℕ, ◌+◌, Bool, true, ◌↔◌, List, [], ◌∷◌, sym, refl, ◌∙◌, subst, zero-add, arith}
+use Rattle.std.proofs.Common.{◌≡◌, ℕ, ◌+◌, Bool, true, ◌↔◌, List, [], ◌∷◌, refl, subst, zero-add, arith}
 use mathlib.Core.Logic.Iff.{symm as flip}
 use Rattle.std.proofs.lemmas.Bool.{eq-eqb, eqb-true}
 use Rattle.regular.specs.Language.{Regex, one, join, either, star, plus, maybe, Word, Tail, Inhabited}
@@ -48,7 +48,7 @@ module _ (r : Regex) where
   from_own : (p q : ℕ) (v : List ℕ) → From n 0 p q v ↔ ((p ≡ q) × Rest n 0 p v)
   from_own p q v = (
     λ (h, k). ((same r 0).own p q h, k),
-    λ (e, k). let (c, h) = held n full 0 p (rest_in n 0 p v k) in (subst (λ z. holds n 0 p z ≡ true) (sym ((same r 0).own p c h) ∙ e) h, k),
+    λ (e, k). let (c, h) = held n full 0 p (rest_in n 0 p v k) in (cc ((same r 0).own p c h), k),
   )
 
   among_own : {S : ℕ → Bool} (q : ℕ) (v : List ℕ) → Among S n 0 q v ↔ ((S q ≡ true) × Rest n 0 q v)

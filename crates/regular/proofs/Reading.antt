@@ -1,5 +1,5 @@
 -- Reading a word right to left over the positions accepts the language's words. Assumes nothing.
-use Rattle.std.proofs.Common.{◌≡◌, ℕ, zero, suc, ◌+◌, ◌<◌, Bool, true, ◌&&◌, ◌↔◌, List, [], ◌∷◌, sym, refl, ◌∙◌, arith}
+use Rattle.std.proofs.Common.{◌≡◌, ℕ, suc, ◌+◌, ◌-◌, ◌<◌, Bool, true, ◌&&◌, ◌↔◌, List, [], ◌∷◌, refl, arith}
 use mathlib.Core.Logic.Iff.{rfl as same}
 use mathlib.Core.Logic.Iff.{symm as flip}
 use Rattle.std.proofs.lemmas.Bool.{eqb-true}
@@ -31,15 +31,12 @@ module _ (r : Regex) where
   module _ (c : ℕ) (v : List ℕ) (each : (q : ℕ) → reached r (c ∷ v) q ≡ true ↔ From r 0 q c v) where
     -- and by any other, where S is T at the positions
     found_cons : (S T : ℕ → Bool) → ((p : ℕ) → S (suc p) ≡ T (suc p)) → some_below (size r + 1) (λ p. reached r (c ∷ v) p && S p) ≡ true ↔ Among T r 0 c v
-    found_cons S T e = some_below_is (size r + 1) (λ p. Decides-and _ _ (each p) same) ⨾ (to, from)
-      where
-        to : (p : ℕ) × (p < size r + 1) × (From r 0 p c v × (S p ≡ true)) → Among T r 0 c v
-        to (zero, _, (k, s)) = let h = holds_in r 0 0 c k.0 in absurd (omega arith)
-        to (suc p, _, (k, s)) = (suc p, (sym (e p) ∙ s, k))
-
-        from : Among T r 0 c v → (p : ℕ) × (p < size r + 1) × (From r 0 p c v × (S p ≡ true))
-        from (zero, (s, k)) = let h = holds_in r 0 0 c k.0 in absurd (omega arith)
-        from (suc p, (s, k)) = let h = holds_in r 0 (suc p) c k.0 in (suc p, omega arith, (k, e p ∙ s))
+    found_cons S T e =
+        some_below_is (size r + 1) (λ p. Decides-and _ _ (each p) same)
+        ⨾ (
+          λ (p, _, (k, s)). let l = holds_in r 0 p c k.0 in (p, (grind (arith, e (p - 1)), k)),
+          λ (p, (s, k)). let l = holds_in r 0 p c k.0 in (p, omega arith, (k, grind (arith, e (p - 1)))),
+        )
 
   pub reached_is : (v : List ℕ) (c q : ℕ) → reached r (c ∷ v) q ≡ true ↔ From r 0 q c v
   reached_is [] c q = Decides-and _ _ same (found_nil (λ p. arrow r p q) ⨾ rest_nil r 0 q)

@@ -31,15 +31,15 @@ one_ten_there = ((1, refl), (10, refl))
 
 abc_jumps : PositionJumps abc (1 ∷ 3 ∷ 3 ∷ 3 ∷ [])
 unfolding tailed
-abc_jumps = even_jumps abc abc_there 100 ((letter_within 97 (lit≤ tt), letter_within 98 (lit≤ tt)), letter_within 99 (lit≤ tt)) 3 (shortest_known abc abc_there) (1 ∷ 3 ∷ 3 ∷ 3 ∷ []) refl (lit≤ tt) refl
+abc_jumps = even_jumps _ abc_there 100 ((letter_within 97 (lit≤ tt), letter_within 98 (lit≤ tt)), letter_within 99 (lit≤ tt)) 3 (shortest_known _ abc_there) _ refl (lit≤ tt) refl
 
 aba_jumps : PositionJumps aba (1 ∷ 2 ∷ 2 ∷ 2 ∷ [])
 unfolding tailed
-aba_jumps = even_jumps aba aba_there 100 ((letter_within 97 (lit≤ tt), letter_within 98 (lit≤ tt)), letter_within 97 (lit≤ tt)) 3 (shortest_known aba aba_there) (1 ∷ 2 ∷ 2 ∷ 2 ∷ []) refl (lit≤ tt) refl
+aba_jumps = even_jumps _ aba_there 100 ((letter_within 97 (lit≤ tt), letter_within 98 (lit≤ tt)), letter_within 97 (lit≤ tt)) 3 (shortest_known _ aba_there) _ refl (lit≤ tt) refl
 
 one_ten_jumps : PositionJumps one_ten (1 ∷ 2 ∷ 2 ∷ [])
 unfolding tailed
-one_ten_jumps = even_jumps one_ten one_ten_there 100 (letter_within 1 (lit≤ tt), letter_within 10 (lit≤ tt)) 2 (shortest_known one_ten one_ten_there) (1 ∷ 2 ∷ 2 ∷ []) refl (lit≤ tt) refl
+one_ten_jumps = even_jumps _ one_ten_there 100 (letter_within 1 (lit≤ tt), letter_within 10 (lit≤ tt)) 2 (shortest_known _ one_ten_there) _ refl (lit≤ tt) refl
 
 -- by shifts that are the defined jumps, where the start has 1 and all positions have one number
 module _ (r : Regex) (i : Inhabited r) (t : ℕ) (P : PositionJumps r (1 ∷ replicate (size r) t)) (text : List ℕ) (matches : List (ℕ × ℕ)) (is : listed r text 0 (length text + 1) ≡ matches) (walks reads : ℕ)
@@ -52,27 +52,27 @@ module _ (r : Regex) (i : Inhabited r) (t : ℕ) (P : PositionJumps r (1 ∷ rep
 
 abc_searched : SearchedByJumps abc xabbcabc ((1, 5) ∷ (5, 8) ∷ []) 7 13
 unfolding accepted tailed
-abc_searched = by_jumps abc abc_there 3 abc_jumps xabbcabc ((1, 5) ∷ (5, 8) ∷ []) refl 7 13 refl
+abc_searched = by_jumps _ abc_there 3 abc_jumps _ _ refl _ _ refl
 
 aba_searched : SearchedByJumps aba ababa ((0, 3) ∷ (2, 5) ∷ []) 4 8
 unfolding accepted tailed
-aba_searched = by_jumps aba aba_there 2 aba_jumps ababa ((0, 3) ∷ (2, 5) ∷ []) refl 4 8 refl
+aba_searched = by_jumps _ aba_there 2 aba_jumps _ _ refl _ _ refl
 
 aba_single : Searched aba ababa (λ _. 1) ((0, 3) ∷ (2, 5) ∷ []) 6 10
 unfolding accepted tailed
-aba_single = searched aba ababa aba_there ((0, 3) ∷ (2, 5) ∷ []) refl (λ _. 1) 6 10 refl (λ _. 1) (λ v tail. refl)
+aba_single = searched _ _ aba_there _ refl (λ _. 1) _ _ refl _ (λ v tail. refl)
 
 one_ten_searched : SearchedByJumps one_ten (1 ∷ 10 ∷ 17 ∷ 1 ∷ 10 ∷ []) ((0, 2) ∷ (3, 5) ∷ []) 5 7
 unfolding accepted tailed
-one_ten_searched = by_jumps one_ten one_ten_there 2 one_ten_jumps (1 ∷ 10 ∷ 17 ∷ 1 ∷ 10 ∷ []) ((0, 2) ∷ (3, 5) ∷ []) refl 5 7 refl
+one_ten_searched = by_jumps _ one_ten_there 2 one_ten_jumps _ _ refl _ _ refl
 
 any_a_nothing : Exactly any_a [] 0 1 ((0, 0) ∷ [])
 unfolding accepted
-any_a_nothing = listed_range any_a [] 0 1 (lit≤ tt)
+any_a_nothing = listed_range _ _ 0 1 (lit≤ tt)
 
 any_a_a : Exactly any_a (97 ∷ []) 0 2 ((0, 0) ∷ (1, 1) ∷ (0, 1) ∷ [])
 unfolding accepted
-any_a_a = listed_range any_a (97 ∷ []) 0 2 (lit≤ tt)
+any_a_a = listed_range _ _ 0 2 (lit≤ tt)
 
 pub all_worked_cases : WorkedCases
 all_worked_cases = record {

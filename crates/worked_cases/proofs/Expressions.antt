@@ -24,7 +24,7 @@ abc_read = record {
   tree = only (row (row (lone (byte 97 refl once)) (byte 98 refl some_times)) (byte 99 refl once));
   is_written = record { short = lit≤ tt; as_bytes = refl };
   breaks_no_limit = refl;
-  means_it = ap₂ join (ap₂ join (one_code 255 97 refl) (ap plus (one_code 255 98 refl))) (one_code 255 99 refl);
+  means_it = ap₂ join (ap₂ join (one_code _ _ refl) (ap plus (one_code _ _ refl))) (one_code _ _ refl);
 }
 
 pub aba_read : ReadAs Bytes (97 ∷ 98 ∷ 97 ∷ []) aba
@@ -33,7 +33,7 @@ aba_read = record {
   tree = only (row (row (lone (byte 97 refl once)) (byte 98 refl once)) (byte 97 refl once));
   is_written = record { short = lit≤ tt; as_bytes = refl };
   breaks_no_limit = refl;
-  means_it = ap₂ join (ap₂ join (one_code 255 97 refl) (one_code 255 98 refl)) (one_code 255 97 refl);
+  means_it = ap₂ join (ap₂ join (one_code _ _ refl) (one_code _ _ refl)) (one_code _ _ refl);
 }
 
 pub any_a_read : ReadAs Bytes (97 ∷ 42 ∷ []) any_a
@@ -42,7 +42,7 @@ any_a_read = record {
   tree = only (lone (byte 97 refl any));
   is_written = record { short = lit≤ tt; as_bytes = refl };
   breaks_no_limit = refl;
-  means_it = ap star (one_code 255 97 refl);
+  means_it = ap star (one_code _ _ refl);
 }
 
 pub one_ten_read : ReadAs Fields (60 ∷ 48 ∷ 49 ∷ 62 ∷ 60 ∷ 49 ∷ 48 ∷ 62 ∷ []) one_ten
@@ -51,5 +51,5 @@ one_ten_read = record {
   tree = only (row (lone (field 48 49 refl refl)) (field 49 48 refl refl));
   is_written = record { short = lit≤ tt; as_bytes = refl };
   breaks_no_limit = refl;
-  means_it = ap₂ join (one_code 99 1 refl) (one_code 99 10 refl);
+  means_it = ap₂ join (one_code _ _ refl) (one_code _ _ refl);
 }

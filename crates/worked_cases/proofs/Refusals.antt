@@ -12,7 +12,7 @@ use Rattle.worked_cases.specs.WorkedCases.{RefusedBy}
 pub nothing_refused : (m : Mode) → RefusedBy m [] 2 0
 nothing_refused m = record {
   fault = NotInGrammar 0;
-  due = not_in_grammar 0 refl (lit≤ tt) (unfinished m [] Need 0 refl refl);
+  due = not_in_grammar 0 refl (lit≤ tt) (unfinished _ _ Need 0 refl refl);
   by_number = refl;
   at_place = refl;
 }
@@ -20,7 +20,7 @@ nothing_refused m = record {
 pub second_star_refused : RefusedBy Bytes (97 ∷ 42 ∷ 42 ∷ []) 2 2
 second_star_refused = record {
   fault = NotInGrammar 2;
-  due = not_in_grammar 2 refl (lit≤ tt) (stuck Bytes (97 ∷ 42 ∷ 42 ∷ []) 2 Marked 0 (lit≤ tt) refl refl);
+  due = not_in_grammar 2 refl (lit≤ tt) (stuck _ _ 2 Marked 0 (lit≤ tt) refl refl);
   by_number = refl;
   at_place = refl;
 }
@@ -28,7 +28,7 @@ second_star_refused = record {
 pub open_group_refused : RefusedBy Bytes (40 ∷ 97 ∷ 98 ∷ []) 2 3
 open_group_refused = record {
   fault = NotInGrammar 3;
-  due = not_in_grammar 3 refl (lit≤ tt) (unfinished Bytes (40 ∷ 97 ∷ 98 ∷ []) Atom 1 refl refl);
+  due = not_in_grammar 3 refl (lit≤ tt) (unfinished _ _ Atom 1 refl refl);
   by_number = refl;
   at_place = refl;
 }

@@ -1,5 +1,6 @@
 -- A run over a whole text, from the shifts at the tails alone, whatever room there is beyond the matches. Assumes nothing.
 use Rattle.std.proofs.Common.{◌≡◌, ℕ, zero, suc, ◌+◌, ◌-◌, ◌≤◌, min, cond, List, length, sym, refl, ap, ◌∙◌, ap₂, subst₂, zero-add, arith, length-append}
+use Rattle.std.proofs.Math.Nat.{sub-zero}
 use Rattle.regular.specs.Language.{Regex, Tail, Inhabited}
 use Rattle.regular.specs.Matches.{ending, listed, longest, Exactly}
 use Rattle.regular.proofs.Endings.{listed_append, listed_range}
@@ -29,7 +30,7 @@ module _ (r : Regex) (t : List ℕ) where
         let on = ap (λ x. min (k.next + x) (length t + 1)) (same (longest r t k.next) (longest_tail r t k.next i)) in
         λ i. record { from = k.from; next = on i; walks = k.walks + 1; reads = k.reads + reading r t k.next }
 
-    pub run_same : (b : ℕ) (k : Reckoned) → k.from ≡ 0 → granted_all r t room (λ _. h) 0 b k ≡ granted_all r t (length all) (λ _. g) 0 b k
+    run_same : (b : ℕ) (k : Reckoned) → k.from ≡ 0 → granted_all r t room (λ _. h) 0 b k ≡ granted_all r t (length all) (λ _. g) 0 b k
     run_same zero k opened = refl
     run_same (suc b) k opened =
         ap₂ (λ d n. cond d k n)
@@ -43,13 +44,10 @@ module _ (r : Regex) (t : List ℕ) where
     ended filled = record { from = 0; next = length t + 1; filled = filled; walks = walks; reads = reads }
 
     pub searched : (h : List ℕ → ℕ) → ((v : List ℕ) → Tail r v → h v ≡ g v) → Searched r t h matches walks reads
-    searched h same =
-        let from_0 : 0 + (length t + 1) ≡ length t + 1 = omega arith in
-        let less_0 : (length t + 1) - 0 ≡ length t + 1 = omega arith in
-        record {
-          every_match = subst₂ (Exactly r t 0) from_0 is (listed_range r t 0 (length t + 1) (omega arith));
-          numbers = λ room fits.
-              ap (numbers_by r t room (λ _. h)) (run_same i g h same room (omega (arith, ap length is)) (length t + 1) (begun 0) refl ∙ ends)
-              ∙ ap (λ n. ended (length (listed r t 0 n))) less_0
-              ∙ ap (λ l. ended (length l)) is;
-        }
+    searched h same = record {
+      every_match = subst₂ (Exactly r t 0) (zero-add (length t + 1)) is (listed_range r t 0 (length t + 1) (omega arith));
+      numbers = λ room fits.
+          ap (numbers_by r t room (λ _. h)) (run_same i g h same room (omega (arith, ap length is)) (length t + 1) (begun 0) refl ∙ ends)
+          ∙ ap (λ n. ended (length (listed r t 0 n))) (sub-zero (length t + 1))
+          ∙ ap (λ l. ended (length l)) is;
+    }
