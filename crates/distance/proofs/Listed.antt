@@ -5,7 +5,6 @@ use mathlib.Core.Logic.Iff.{rfl as same}
 use Rattle.regular.specs.Language.{Regex, Inhabited}
 use Rattle.regular.specs.Positions.{tailed}
 use Rattle.regular.proofs.Iff.{◌⨾◌, sum}
-use Rattle.regular.proofs.Words.{head_same, tail_same}
 use Rattle.regular.proofs.Tails.{tails_tailed}
 use Rattle.distance.specs.Extremes.{Distance, infinite, finite, lesser, LeastIfAny}
 use Rattle.distance.specs.Kinds.{OneKind, SameKinds, Member, Apart, TailsOfKinds}
@@ -98,16 +97,13 @@ module _ (r : Regex) (codes : ℕ) where
   fronted_once : (v : List ℕ) → Distinct (fronted r codes v)
   fronted_once v =
       distinct_joined (longer r v) (kinds r codes) (kinds_once codes) (λ c. distinct_cond (tailed r (c ∷ v)) (c ∷ v))
-      (λ c d w m k. head_same (sym ((mem_cond (tailed r (c ∷ v)) w (c ∷ v)).0 m).1 ∙ ((mem_cond (tailed r (d ∷ v)) w (d ∷ v)).0 k).1))
+      (λ c d w m k. cc (((mem_cond (tailed r (c ∷ v)) w (c ∷ v)).0 m).1, ((mem_cond (tailed r (d ∷ v)) w (d ∷ v)).0 k).1))
 
   tails_once : (n : ℕ) → Distinct (tails r codes n)
   tails_once zero = (λ m. m, tt)
   tails_once (suc n) =
       distinct_joined (fronted r codes) (tails r codes n) (tails_once n) fronted_once
-      (λ x y w m k.
-      let (_, _, (_, e)) = (mem_fronted r codes x w).0 m in
-      let (_, _, (_, f)) = (mem_fronted r codes y w).0 k in
-      tail_same (sym e ∙ f))
+      (λ x y w m k. let (_, _, (_, e)) = (mem_fronted r codes x w).0 m in let (_, _, (_, f)) = (mem_fronted r codes y w).0 k in cc)
 
   upto_once : (n : ℕ) → Distinct (tails_upto r codes n)
   upto_once zero = (λ m. m, tt)
