@@ -4,6 +4,7 @@ ghost use Rattle.regular.specs.Positions.{accepted};
 ghost use Rattle.regular.specs.Matches.{ending, longest};
 ghost use Rattle.engine.specs.Answers.{Advances};
 ghost use Rattle.search.specs.Rules.{reading};
+ghost use Rattle.refusal.specs.declared.TheConstants.{LONGEST_TEXT};
 
 use crate::numbers::Match;
 use engine::{Engine, Symbol};
@@ -23,7 +24,7 @@ pub(crate) struct Spot<'a, S, E> {
     pub text: &'a [S],
     pub place: u32,
     ghost inside: { place ≤ length text.now },
-    ghost short: { length text.now ≤ 65535 },
+    ghost short: { length text.now ≤ LONGEST_TEXT },
 }
 
 impl<'a, S: Symbol, E: Engine> Spot<'a, S, E> {

@@ -9,10 +9,10 @@ ghost use Rattle.syntax.specs.declared.mode.Mode.{Mode};
 use crate::lexer::{Lexer, Token};
 use crate::mode::Mode;
 use crate::sets::{holds_nothing, reversed_in};
-use refusal::Fault;
+use refusal::{Fault, LONGEST_EXPRESSION};
 
 /// How many bytes an expression may have.
-pub const LONGEST: usize = 1024;
+pub const LONGEST: usize = LONGEST_EXPRESSION;
 
 /// How many positions an expression may have, one for each simple atom.
 pub const MOST_POSITIONS: usize = 63;

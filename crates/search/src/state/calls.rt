@@ -30,7 +30,7 @@ impl<'t, S: Symbol> Search<'t, S> {
 
     /// Begins a search of the text, which has at most 65,535 symbols: `Search::open(b"xabbcabc")?`.
     pub fn open(text: &'t [S]) -> Result<Search<'t, S>, Fault>
-        ensures { MatchResult result (λ s. (length text.now ≤ 65535) × (s.text ≡ text.entry) × (s.numbers ≡ fresh 0)) (λ f. (65535 < length text.now) × (f ≡ TextTooLong)) }
+        ensures { MatchResult result (λ s. (length text.now ≤ LONGEST_TEXT) × (s.text ≡ text.entry) × (s.numbers ≡ fresh 0)) (λ f. (LONGEST_TEXT < length text.now) × (f ≡ TextTooLong)) }
     {
         if text.len() > LONGEST_TEXT {
             return Err(Fault::TextTooLong);
