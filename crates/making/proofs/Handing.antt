@@ -21,9 +21,8 @@ use Rattle.tabled.specs.declared.tabled.Tabled.{Tabled}
 use Rattle.tabled.specs.Jumps.{greatest_of}
 use Rattle.tabled.specs.Exact as tabled_exact
 use Rattle.word.specs.declared.word.Word.{Word}
-use Rattle.word.specs.Jumps.{WordJumps}
 use Rattle.word.specs.Exact as word_exact
-use Rattle.word.specs.Plain.{jump_is}
+use Rattle.plain_word.proofs.Plain.{ends_tails}
 use Rattle.search.specs.ListTheorem.{ListTheorem}
 use Rattle.search.specs.Performing.{named, Performs}
 use Rattle.search.specs.declared.numbers.Call.{Call}
@@ -38,10 +37,15 @@ module _ (bytes : List ℕ) (n : Node) (a : Accepted Mode.Bytes bytes n) where
     exact = subst (λ (m : Node). (v : List ℕ) → Tail (language m) v → Jump (language m) v (greatest_of (language m) (vec_items e.jumps) v)) (sym made.same_tree) made.exact;
   }
 
+  word_jump : (e : Word) → word_exact.JumpsExactly n e → (v : List ℕ) → Tail (language n) v → WholeJump (language n) v (get_or (vec_items e.jumps) (length v) 0)
+  word_jump e made v tail =
+      let (short, is) = (ends_tails n e.letters a.values_are_exact made.letters v).0 tail in
+      subst (λ u. WholeJump (language n) u (get_or (vec_items e.jumps) (length v) 0)) (sym is) (made.exact (length v) short)
+
   word_made : (e : Word) → word_exact.JumpsExactly n e → WordOf bytes e
   word_made e made = record {
     accepted = subst (Accepted Mode.Bytes bytes) (sym made.same_tree) a;
-    exact = λ v tail. jump_is e v tail (subst (λ (m : Node). WordJumps (language m) (vec_items e.letters) (vec_items e.jumps)) (sym made.same_tree) made.exact);
+    exact = subst (λ (m : Node). (v : List ℕ) → Tail (language m) v → WholeJump (language m) v (get_or (vec_items e.jumps) (length v) 0)) (sym made.same_tree) (word_jump e made);
   }
 
   -- the bytes have one meaning

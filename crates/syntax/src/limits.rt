@@ -8,7 +8,6 @@ ghost use Rattle.syntax.specs.declared.mode.Mode.{Mode};
 
 use crate::lexer::{Lexer, Token};
 use crate::mode::Mode;
-use crate::sets::{holds_nothing, reversed_in};
 use refusal::{Fault, LONGEST_EXPRESSION};
 
 /// How many bytes an expression may have.
@@ -56,8 +55,8 @@ impl Findings {
             Token::Bar | Token::Mark(_) => self,
             _ => Findings {
                 positions: self.positions + 1,
-                reversed: self.reversed.or(reversed_in(mode, token)),
-                empty: self.empty.or(holds_nothing(mode, token).then_some(place)),
+                reversed: self.reversed.or(token.reversed(mode)),
+                empty: self.empty.or(token.holds_nothing(mode).then_some(place)),
                 over: self
                     .over
                     .or((self.positions >= MOST_POSITIONS).then_some(place)),

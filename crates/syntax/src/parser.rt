@@ -10,7 +10,6 @@ use crate::grammar::check_grammar;
 use crate::lexer::{Lexer, Token};
 use crate::limits::{DEEPEST, LONGEST, check_limits};
 use crate::mode::Mode;
-use crate::sets::{bare_value, codes};
 use crate::tree::{Atom, Node, chosen, grouped, joined, marked};
 use refusal::Fault;
 use std::alloc::Global;
@@ -37,8 +36,7 @@ fn read_atom(heap: Global, lexer: &mut Lexer<'_>, left: usize) -> Result<Node, F
         Token::Close | Token::Bar | Token::Mark(_) => Err(Fault::NotInGrammar { place }),
         _ => {
             let mode = lexer.mode();
-            let codes = codes(mode, token);
-            let single = bare_value(mode, token);
+            let (codes, single) = (token.codes(mode), token.single(mode));
             Ok(Node::Atom(Atom { codes, single }))
         }
     }

@@ -29,7 +29,7 @@ pub read_atom-returns-in-Close-clause-got : goal.read_atom-returns-in-Close-clau
 read_atom-returns-in-Close-clause-got t c m = atom_sign m c.args.lexer.now c.args.left _ _ c.in_ok-token.ensures.found c.in-Close.is _ c.args.lexer.now
 
 pub read_atom-returns-in_default-clause-got : goal.read_atom-returns-in_default-clause-got
-read_atom-returns-in_default-clause-got t c m = atom_simple m c.args.lexer.now c.args.left _ _ c.in_ok-token.ensures.found c.in_default.not-Open _ c.mode-mode.result c.mode-mode.ensures c.codes-codes.ensures.table c.codes-codes.ensures.long c.bare_value-single.ensures.value c.bare_value-single.ensures.bound
+read_atom-returns-in_default-clause-got t c m = atom_simple m c.args.lexer.now c.args.left _ _ c.in_ok-token.ensures.found c.in_default.not-Open _ c.mode-mode.result c.mode-mode.ensures c.codes-codes.ensures.table c.codes-codes.ensures.long c.single-single.ensures.value c.single-single.ensures.bound
 
 pub read_item-returns-in_err-atom-clause-got : goal.read_item-returns-in_err-atom-clause-got
 read_item-returns-in_err-atom-clause-got t c m =

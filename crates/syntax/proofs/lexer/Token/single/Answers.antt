@@ -1,9 +1,9 @@
--- `bare_value` meets its contract. Assumes nothing.
+-- `single` meets its contract. Assumes nothing.
 use Rattle.syntax.specs.Grammar.{bare}
 use Rattle.syntax.specs.Tokens.{Stands, atom}
 use Rattle.std.proofs.Common.{◌≡◌, subst}
 use Rattle.syntax.proofs.Held.{of_set}
-use Rattle.syntax.proofs.sets.bare_value.Goals as goal
+use Rattle.syntax.proofs.lexer.Token.single.Goals as goal
 
 pub returns-in-Set-clause-value : goal.returns-in-Set-clause-value
 returns-in-Set-clause-value c s (p, st) =

@@ -1,4 +1,4 @@
--- `holds_code` meets its contract. Assumes nothing.
+-- `holds` meets its contract. Assumes nothing.
 use Rattle.std.proofs.Common.{◌≡◌, not, sym, ap, ◌∙◌, subst, cond, Bool, true, false, refl, ◌&&◌, arith}
 use Rattle.std.proofs.lemmas.Bool.{le-leb}
 use Rattle.std.specs.List.{list_any}
@@ -7,7 +7,7 @@ use Rattle.syntax.specs.Grammar.{held as simple_held}
 use Rattle.syntax.specs.Members.{covers}
 use Rattle.syntax.specs.Tokens.{Stands, atom}
 use Rattle.syntax.proofs.Held.{of_set, listed_found, covers_found}
-use Rattle.syntax.proofs.sets.holds_code.Goals as goal
+use Rattle.syntax.proofs.lexer.Token.holds.Goals as goal
 
 turned : (n a : Bool) → not (mathlib.Core.Bool.beq a n) ≡ cond n (not a) a
 turned true true = refl

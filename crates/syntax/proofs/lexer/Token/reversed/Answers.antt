@@ -1,10 +1,10 @@
--- `reversed_in` meets its contract. Assumes nothing.
+-- `reversed` meets its contract. Assumes nothing.
 use Rattle.std.proofs.Common.{◌≡◌, ap, ◌∙◌, subst, find}
 use Rattle.syntax.specs.Refusals.{first, reversed_members, reversed_simple}
 use Rattle.syntax.specs.Members.{runs_back}
 use Rattle.syntax.specs.Tokens.{Stands, atom}
 use Rattle.syntax.proofs.Held.{of_set, listed_found, reversed_found, place_of}
-use Rattle.syntax.proofs.sets.reversed_in.Goals as goal
+use Rattle.syntax.proofs.lexer.Token.reversed.Goals as goal
 
 pub returns-in-Set : goal.returns-in-Set
 returns-in-Set c s p st =
