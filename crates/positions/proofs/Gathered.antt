@@ -1,5 +1,5 @@
 -- What is gathered of a table, member by member. Assumes nothing.
-use Rattle.std.proofs.Common.{◌≡◌, ℕ, zero, suc, ◌≤◌, ◌<◌, ◌^◌, Bool, true, false, cond, eqb, List, [], ◌∷◌, length, sym, refl, ap, ◌∙◌, ⊎_elim, arith}
+use Rattle.std.proofs.Common.{◌≡◌, ℕ, zero, suc, ◌≤◌, ◌<◌, ◌^◌, Bool, true, false, cond, List, [], ◌∷◌, length, sym, refl, ap, ◌∙◌, ⊎_elim, arith}
 use Rattle.std.specs.Prelude.{slice_index, fold, max}
 use Rattle.std.proofs.lemmas.Bool.{cases_lt}
 use Rattle.std.proofs.lemmas.List.{get_or_past}
@@ -13,13 +13,16 @@ use Rattle.positions.specs.Greatest.{greatest_in}
 -- f takes in what the table has for each member, one after another; 0 adds nothing
 module _ (join : ℕ → ℕ → ℕ) (nothing : (x : ℕ) → join x 0 ≡ x) (first : ℕ) (table : List ℕ) (s : ℕ) (small : s < 2 ^ 64)
     (f : ℕ → ℕ) (begin : f 0 ≡ first) (step : (n : ℕ) → f (suc n) ≡ cond (bit s n) (join (f n) (slice_index table n)) (f n)) where
-  one_more : (n all : ℕ) (b : Bool) → cond b (join all (slice_index table n)) all ≡ fold (λ x p. join x (slice_index table p)) all (cond b (n ∷ []) [])
-  one_more n all true = refl
-  one_more n all false = refl
+  abbrev taken : ℕ → ℕ → ℕ
+  taken x p = join x (slice_index table p)
 
-  gathered : (n : ℕ) → f n ≡ fold (λ x p. join x (slice_index table p)) first (members_below s n)
+  gathered : (n : ℕ) → f n ≡ fold taken first (members_below s n)
   gathered zero = begin
-  gathered (suc n) = step n ∙ ap (λ x. cond (bit s n) (join x (slice_index table n)) x) (gathered n) ∙ one_more n _ (bit s n) ∙ sym (fold-append (λ x p. join x (slice_index table p)) first (members_below s n) (cond (bit s n) (n ∷ []) []))
+  gathered (suc n) = rw (step n, gathered n, fold-append taken first (members_below s n) (cond (bit s n) (n ∷ []) [])) (one_more (bit s n) (fold taken first (members_below s n)))
+    where
+      one_more : (b : Bool) (x : ℕ) → cond b (taken x n) x ≡ fold taken x (cond b (n ∷ []) [])
+      one_more true x = refl
+      one_more false x = refl
 
   -- behind the table, or behind the set, nothing is taken in
   beyond : (m n : ℕ) → ((i : ℕ) → m ≤ i → cond (bit s i) (join (f i) (slice_index table i)) (f i) ≡ f i) → m ≤ n → f n ≡ f m
@@ -28,16 +31,16 @@ module _ (join : ℕ → ℕ → ℕ) (nothing : (x : ℕ) → join x 0 ≡ x) (
       ⊎_elim (λ less. let e : suc n ≡ m = omega arith in ap f e) (λ more. step n ∙ none n more ∙ beyond m n none more) (cases_lt n m)
 
   behind_table : (i : ℕ) → length table ≤ i → cond (bit s i) (join (f i) (slice_index table i)) (f i) ≡ f i
-  behind_table i le = ap (λ x. cond (bit s i) (join (f i) x) (f i)) (get_or_past table i 0 le) ∙ ap (λ x. cond (bit s i) x (f i)) (nothing (f i)) ∙ go (bit s i)
+  behind_table i le = rw (get_or_past table i 0 le, nothing (f i)) (cond_same (bit s i))
     where
-      go : (b : Bool) → cond b (f i) (f i) ≡ f i
-      go true = refl
-      go false = refl
+      cond_same : (b : Bool) → cond b (f i) (f i) ≡ f i
+      cond_same true = refl
+      cond_same false = refl
 
   behind_set : (i : ℕ) → 64 ≤ i → cond (bit s i) (join (f i) (slice_index table i)) (f i) ≡ f i
-  behind_set i le = ap (λ x. cond (eqb x 1) (join (f i) (slice_index table i)) (f i)) (bit_at_above s 64 i small le)
+  behind_set i le = rw (bit_at_above s 64 i small le)
 
-  all_gathered : fold (λ x p. join x (slice_index table p)) first (members_below s 64) ≡ f (length table)
+  all_gathered : fold taken first (members_below s 64) ≡ f (length table)
   all_gathered =
       sym (gathered 64)
       ∙ ⊎_elim (λ short. beyond (length table) 64 behind_table (omega arith)) (λ long. sym (beyond 64 (length table) behind_set long)) (cases_lt (length table) 64)

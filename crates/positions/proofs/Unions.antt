@@ -1,12 +1,11 @@
 -- Unions of sets, also of such as are told by a test. Assumes nothing.
 use Rattle.std.proofs.Common.{◌≡◌, ℕ, Bool, true, false, cond, ◌&&◌, ◌||◌, sym, ap, ◌∙◌, ap₂, arith}
-use Rattle.std.specs.Prelude.{◌==◌}
-use Rattle.std.proofs.lemmas.Nat.Bits.{bit_at-zero, bit_at_or, same_from_bits}
+use Rattle.std.proofs.lemmas.Nat.Bits.{bit_at_or, same_from_bits}
 use lib.Bits.{bit_or, or_lt}
 use mathlib.Core.Bool.{or_comm, and_comm}
 use Rattle.std.proofs.Math.Bool.{or-false}
 use Rattle.regular.specs.Sets.{as_set}
-use Rattle.regular.proofs.Bits.{bit_of_or}
+use Rattle.regular.proofs.Bits.{bit_of_or, bit_zero}
 use Rattle.regular.proofs.Sets.{is_set, as_set_bit, as_set_below}
 
 pub or_assoc : (a b c : ℕ) → bit_or (bit_or a b) c ≡ bit_or a (bit_or b c)
@@ -21,7 +20,7 @@ union_set f g =
     (λ q l. bit_of_or (as_set f) (as_set g) q ∙ ap₂ ◌||◌ (as_set_bit f q l) (as_set_bit g q l))
 
 pub empty_set : 0 ≡ as_set (λ q. false)
-empty_set = is_set 0 (λ q. false) (omega arith) (λ q l. ap (λ x. x == 1) (bit_at-zero q))
+empty_set = is_set 0 (λ q. false) (omega arith) (λ q l. bit_zero q)
 
 -- a set, and another one where b says so
 pub union_when : (b : Bool) (f g : ℕ → Bool) → cond b (bit_or (as_set f) (as_set g)) (as_set f) ≡ as_set (λ q. f q || (b && g q))

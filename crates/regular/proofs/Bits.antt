@@ -1,10 +1,11 @@
 -- The members of sets that are numbers. Assumes nothing.
-use Rattle.std.proofs.Common.{◌≡◌, ℕ, zero, suc, ◌+◌, ◌/◌, ◌%◌, ◌^◌, ◌<◌, Bool, true, false, cond, ◌&&◌, ◌||◌, eqb, List, get_or, sym, refl, ap, ◌∙◌, ap₂, add-one, one-add, arith}
+use Rattle.std.proofs.Common.{◌≡◌, ℕ, zero, suc, ◌/◌, ◌^◌, ◌<◌, min, max, Bool, true, false, cond, ◌&&◌, ◌||◌, eqb, List, get_or, sym, refl, ap, ◌∙◌, ap₂, arith}
 use mathlib.Core.Bool.{or_comm}
 pub use mathlib.Core.Bool.{and_comm as and_turn}
-use lib.Bits.{bit_and, bit_or, or_shr, or_mod, and_shr, and_mod}
-use Rattle.std.proofs.lemmas.Nat.{shr-shr, shr_below, shr_le}
+use lib.Bits.{bit_and, bit_or}
+use Rattle.std.specs.Int.{bit_at}
 use Rattle.std.proofs.lemmas.Bool.{ne_eqb, false≢true}
+use Rattle.std.proofs.lemmas.Nat.Bits.{bit_at-lt, bit_at-zero, bit_at-suc, bit_at_and, bit_at_or, same_from_bits_below}
 use Rattle.regular.specs.Positions.{some_below}
 use Rattle.regular.specs.Sets.{bit, followed}
 
@@ -19,36 +20,26 @@ digits P a b c d (suc zero) (suc (suc y)) l k = absurd (omega arith)
 digits P a b c d (suc (suc x)) y l k = absurd (omega arith)
 
 pub bit_of_or : (a b q : ℕ) → bit (bit_or a b) q ≡ bit a q || bit b q
-bit_of_or a b q =
-    ap (λ x. eqb (x % 2) 1) (or_shr a b q)
-    ∙ ap (λ x. eqb x 1) (or_mod (a / 2 ^ q) (b / 2 ^ q) 1)
-    ∙ digits (λ x y. eqb (bit_or x y) 1 ≡ eqb x 1 || eqb y 1) refl refl refl refl (a / 2 ^ q % 2) (b / 2 ^ q % 2) (omega arith) (omega arith)
+bit_of_or a b q = ap (λ x. eqb x 1) (bit_at_or a b q) ∙ digits (λ x y. eqb (max x y) 1 ≡ eqb x 1 || eqb y 1) refl refl refl refl (bit_at a q) (bit_at b q) (bit_at-lt a q) (bit_at-lt b q)
 
 pub bit_of_and : (a b q : ℕ) → bit (bit_and a b) q ≡ bit a q && bit b q
-bit_of_and a b q =
-    ap (λ x. eqb (x % 2) 1) (and_shr a b q)
-    ∙ ap (λ x. eqb x 1) (and_mod (a / 2 ^ q) (b / 2 ^ q) 1)
-    ∙ digits (λ x y. eqb (bit_and x y) 1 ≡ eqb x 1 && eqb y 1) refl refl refl refl (a / 2 ^ q % 2) (b / 2 ^ q % 2) (omega arith) (omega arith)
+bit_of_and a b q = ap (λ x. eqb x 1) (bit_at_and a b q) ∙ digits (λ x y. eqb (min x y) 1 ≡ eqb x 1 && eqb y 1) refl refl refl refl (bit_at a q) (bit_at b q) (bit_at-lt a q) (bit_at-lt b q)
 
 pub bit_zero : (q : ℕ) → bit 0 q ≡ false
-bit_zero q = let e : 0 / 2 ^ q ≡ 0 = omega (arith, shr_le 0 q) in ap (λ x. eqb (x % 2) 1) e
+bit_zero q = ap (λ x. eqb x 1) (bit_at-zero q)
 
-pub bit_half : (a q : ℕ) → bit (a / 2) q ≡ bit a (1 + q)
-bit_half a q = ap (λ x. eqb (x % 2) 1) (shr-shr a 1 q)
+pub bit_suc : (a q : ℕ) → bit a (suc q) ≡ bit (a / 2) q
+bit_suc a q = ap (λ x. eqb x 1) (bit_at-suc a q)
 
 pub bit_one : (q : ℕ) → bit 1 q ≡ eqb q 0
 bit_one zero = refl
-bit_one (suc q) = ap (bit 1) (sym (one-add q)) ∙ sym (bit_half 1 q) ∙ bit_zero q ∙ sym (ne_eqb (suc q) 0 (λ e. omega arith))
+bit_one (suc q) = bit_suc 1 q ∙ bit_zero q ∙ sym (ne_eqb (suc q) 0 (λ e. omega arith))
 
 -- sets with the same members are equal
 pub same_bits : (n a b : ℕ) → a < 2 ^ n → b < 2 ^ n → ((q : ℕ) → q < n → bit a q ≡ bit b q) → a ≡ b
-same_bits zero a b l k f = omega arith
-same_bits (suc n) a b l k f =
-    let half : a / 2 ≡ b / 2 =
-    same_bits n (a / 2) (b / 2) (shr_below a n 1 (rw add-one l)) (shr_below b n 1 (rw add-one k)) (λ q h. bit_half a q ∙ f (1 + q) (omega arith) ∙ sym (bit_half b q)) in
-    let last : a / 1 % 2 ≡ b / 1 % 2 =
-    digits (λ x y. eqb x 1 ≡ eqb y 1 → x ≡ y) (λ _. refl) (λ e. absurd (false≢true e)) (λ e. absurd (false≢true (sym e))) (λ _. refl) (a / 1 % 2) (b / 1 % 2) (omega arith) (omega arith) (f 0 (omega arith)) in
-    omega arith
+same_bits n a b l k f =
+    same_from_bits_below n a b l k
+    (λ q h. digits (λ x y. eqb x 1 ≡ eqb y 1 → x ≡ y) (λ _. refl) (λ e. absurd (false≢true e)) (λ e. absurd (false≢true (sym e))) (λ _. refl) (bit_at a q) (bit_at b q) (bit_at-lt a q) (bit_at-lt b q) (f q h))
 
 pub some_below_like : (n : ℕ) (f g : ℕ → Bool) → ((p : ℕ) → p < n → f p ≡ g p) → some_below n f ≡ some_below n g
 some_below_like zero f g e = refl

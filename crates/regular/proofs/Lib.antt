@@ -13,5 +13,4 @@ pub mod Endings
 pub mod Longest
 pub mod Jumps
 pub mod Bits
-pub mod Unions
 pub mod Sets

@@ -10,7 +10,7 @@ use Rattle.regular.specs.Sets.{bit, followed, set_of, as_set, row, arrows_of, he
 use Rattle.regular.proofs.Iff.{and_true}
 use Rattle.regular.proofs.Reading.{some_below_is, reached_in, words_accepted}
 use Rattle.regular.proofs.Tails.{tails_tailed}
-use Rattle.regular.proofs.Bits.{bit_of_and, bit_zero, bit_one, bit_half, same_bits, some_below_like, and_turn, followed_bits}
+use Rattle.regular.proofs.Bits.{bit_of_and, bit_zero, bit_one, bit_suc, same_bits, some_below_like, and_turn, followed_bits}
 
 -- the first digit of a set, and the rest of it
 digit : (b : Bool) (x : ℕ) → ((cond b 1 0 + 2 * x) / 2 ≡ x) × (eqb ((cond b 1 0 + 2 * x) % 2) 1 ≡ b) × (cond b 1 0 ≤ 1)
@@ -23,8 +23,7 @@ bit_set (suc n) f zero l =
     let s = set_of (suc n) f in
     let e : s / 1 ≡ s = omega arith in ap (λ z. eqb (z % 2) 1) e ∙ (digit (f 0) (set_of n (λ q. f (suc q)))).1
 bit_set (suc n) f (suc q) l =
-    ap (bit (set_of (suc n) f)) (sym (one-add q)) ∙ sym (bit_half (set_of (suc n) f) q) ∙ ap (λ z. bit z q) (digit (f 0) (set_of n (λ q. f (suc q)))).0
-    ∙ bit_set n (λ q. f (suc q)) q (omega arith)
+    bit_suc (set_of (suc n) f) q ∙ ap (λ z. bit z q) (digit (f 0) (set_of n (λ q. f (suc q)))).0 ∙ bit_set n (λ q. f (suc q)) q (omega arith)
 
 pub set_below : (n : ℕ) (f : ℕ → Bool) → set_of n f < 2 ^ n
 set_below zero f = omega arith

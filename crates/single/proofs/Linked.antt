@@ -26,16 +26,8 @@ module _ (old rows : List ℕ) (s : ℕ) (ps : List ℕ) (h : Linked old rows s 
       Row : ℕ → Type 0
       Row k = get_or (set rows p x) k 0 ≡ bit_or (get_or old k 0) (cond (list_any (λ q. eqb q k) (ps ++ p ∷ [])) s 0)
 
-      some : (b : Bool) → (b || true) ≡ true
-      some true = refl
-      some false = refl
-
       here : Row p
-      here =
-          get_or-set_same rows p x 0 l ∙ is ∙ ap (λ z. bit_or z s) (h p l) ∙ again (get_or old p 0) s (list_any (λ q. eqb q p) ps)
-          ∙ ap (λ b. bit_or (get_or old p 0) (cond b s 0)) (sym (among p ∙ ap (λ b. list_any (λ q. eqb q p) ps || b) (eq-eqb p p refl) ∙ some (list_any (λ q. eqb q p) ps)))
+      here = rw (get_or-set_same rows p x 0 l, among p, is, h p l, again (get_or old p 0) s) (grind (arith, eq-eqb p p refl))
 
       other : (k ≡ p → ⊥) → Row k
-      other ne =
-          get_or-set_other rows p k x 0 ne ∙ h k (omega (arith, length-set rows p x))
-          ∙ ap (λ b. bit_or (get_or old k 0) (cond b s 0)) (sym (among k ∙ ap (λ b. list_any (λ q. eqb q k) ps || b) (ne_eqb p k (λ e. ne (sym e))) ∙ or-false (list_any (λ q. eqb q k) ps)))
+      other ne = rw (get_or-set_other rows p k x 0 ne, among k, h k (omega (arith, length-set rows p x))) (grind (arith, ne_eqb p k, or-false (list_any (λ q. eqb q k) ps)))

@@ -25,6 +25,7 @@ fn hold(held: &mut [Positions; 256], codes: &[bool; 256], set: Positions)
     ensures long { length held.new ≡ 256 }
     ensures gains { (c : ℕ) → c < 256 → slice_index held.new c ≡ bit_or (slice_index held.old c) (if slice_index_or codes.now c false then set else 0) }
 {
+    // by index, since a proof knows nothing of what an adapter of `iter_mut` writes
     for (code, holds) in codes.iter().enumerate() {
         if *holds {
             held[code] |= set;

@@ -3,6 +3,6 @@
 #![tactic(auto)]
 
 mod fill;
-mod steps;
+mod single;
 
-pub use steps::SingleStep;
+pub use single::SingleStep;

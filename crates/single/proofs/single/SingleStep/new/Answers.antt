@@ -7,8 +7,8 @@ use Rattle.regular.specs.Positions.{size}
 use Rattle.regular.specs.Sets.{as_set}
 use Rattle.syntax.specs.Tree.{language}
 use Rattle.single.proofs.Filling.{arrows_made, held_made, finals_made}
-use Rattle.single.proofs.steps.SingleStep.new.Goals as goal
-use Rattle.single.proofs.steps.SingleStep.new.Goals.{then-outline, else-outline}
+use Rattle.single.proofs.single.SingleStep.new.Goals as goal
+use Rattle.single.proofs.single.SingleStep.new.Goals.{then-outline, else-outline}
 
 pub invariant_of-result : goal.invariant_of-result
 invariant_of-result c =

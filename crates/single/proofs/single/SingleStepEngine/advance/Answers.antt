@@ -4,7 +4,7 @@ use Rattle.std.proofs.lemmas.Bool.{false≢true}
 use Rattle.syntax.specs.Tree.{language}
 use Rattle.syntax.proofs.Filled.{full_inhabited}
 use Rattle.single.proofs.Stepping.{lost, found}
-use Rattle.single.proofs.steps.SingleStepEngine.advance.Goals as goal
+use Rattle.single.proofs.single.SingleStepEngine.advance.Goals as goal
 
 pub returns-then-is_empty : goal.returns-then-is_empty
 returns-then-is_empty c v tail is =
