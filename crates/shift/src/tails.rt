@@ -83,7 +83,8 @@ impl Tails {
 
     // The lesser of the two distances.
     pub(crate) fn nearest(&self, word: &[u8]) -> usize
-        ensures { finite result ≡ lesser (first_of (all_words self.now) word.now) (finite (second_of self.now.depth (full_words self.now) word.now)) }
+        ensures { let second = second_of self.now.depth (full_words self.now) word.now in
+            finite result ≡ lesser (first_of (all_words self.now) word.now) (finite second) }
     {
         let second = self.second(word);
         self.first(word).map_or(second, |first| first.min(second))
