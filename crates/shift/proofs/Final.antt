@@ -1,9 +1,9 @@
 -- The numbers that are reckoned from the pieces are those of the expression's positions. Assumes nothing.
-use Rattle.std.proofs.Common.{◌≡◌, ℕ, zero, suc, ◌+◌, ◌-◌, ◌<◌, ◌≤◌, min, max, Bool, true, false, cond, ◌&&◌, eqb, ◌⊎◌, ◌↔◌, List, [], ◌∷◌, ◌++◌, map, length, get_or, take, vec_items, sym, refl, ap, ◌∙◌, subst, ap₂, inl, inr, ⊎_elim, arith, length-append}
+use Rattle.std.proofs.Common.{◌≡◌, ℕ, zero, suc, ◌+◌, ◌-◌, ◌<◌, ◌≤◌, min, max, Bool, true, false, cond, ◌&&◌, ◌||◌, eqb, ltb, ◌⊎◌, ◌↔◌, List, [], ◌∷◌, ◌++◌, map, length, get_or, take, vec_items, sym, refl, ap, ◌∙◌, subst, ap₂, inl, inr, ⊎_elim, arith, length-append}
 use Rattle.std.specs.List.{fold, filter, range_with_len}
 use Rattle.std.proofs.lemmas.List.{take_more}
 use Rattle.std.proofs.lemmas.List.FromFn.{length-map-range_with_len, get_or-map-range_with_len}
-use Rattle.std.proofs.lemmas.Bool.{cases_lt, eq-eqb, eqb-true, or_cases, or_left, or_right, and_parts, and_from}
+use Rattle.std.proofs.lemmas.Bool.{cases_lt, eq-eqb, eqb-true, cases_Bool, or_cases, or_left, or_right, and_parts, and_from}
 use Rattle.regular.specs.Language.{Regex, Shortest, Inhabited, shortest}
 use Rattle.regular.specs.Positions.{size, arrow, reached}
 use Rattle.regular.specs.Sets.{bit, followed, as_set, arrows_of, held_of}
@@ -16,14 +16,14 @@ use Rattle.positions.specs.Closure.{spread, Closed}
 use Rattle.distance.specs.Extremes.{Distance, infinite, finite, lesser, LeastIfAny}
 use Rattle.distance.specs.Kinds.{Member}
 use Rattle.distance.specs.Distances.{Depth, PositionJump, PositionJumps}
-use Rattle.distance.specs.Found.{Within, when, least_of, first_of, second_of, opens, way_of, upto, walk, Onward, tails}
+use Rattle.distance.specs.Found.{Within, when, least_of, first_of, second_of, head_of, opens, way_of, upto, walk, Onward, tails}
 use Rattle.distance.proofs.Alike.{Bounded, within_bounded}
 use Rattle.distance.proofs.Counted.{count_one}
 use Rattle.distance.proofs.Least.{finite_same, self_least, lesser_both, least_if_like}
-use Rattle.distance.proofs.Listed.{tails_listed_once}
-use Rattle.distance.proofs.Exact.{PieceJump, pieces_listed, listed_there}
-use Rattle.shift.specs.Led.{Led, led, words, listed}
-use Rattle.shift.specs.Listed.{ListedFor}
+use Rattle.distance.proofs.Listed.{tails_listed_once, upto_listed}
+use Rattle.distance.proofs.Exact.{PieceJump, opens_is, pieces_listed, listed_there}
+use Rattle.shift.specs.Led.{Led, all_codes, led, words, listed}
+use Rattle.shift.specs.Listed.{ListedFor, all_words, full_words}
 use Rattle.shift.specs.Weighed.{Weighs, EachWeighed, WeighedFor, short_of, jump_of}
 use Rattle.shift.specs.declared.pieces.Piece.{Piece}
 use Rattle.shift.specs.declared.pieces.Pieces.{Pieces}
@@ -31,18 +31,18 @@ use Rattle.shift.specs.declared.tails.Tails.{Tails}
 use Rattle.shift.proofs.Longer.{words_led}
 
 -- one tail more is weighed
-module _ (arrows : List ℕ) (ws : List (List ℕ)) (k : ℕ) where
-  each_push : (ts : List Led) (ps : List Piece) (t : Led) (p : Piece) → EachWeighed arrows ws k ts ps → Weighs arrows ws k t p → EachWeighed arrows ws k (ts ++ t ∷ []) (ps ++ p ∷ [])
+module _ (arrows : List ℕ) (ws fs : List (List ℕ)) (k : ℕ) where
+  each_push : (ts : List Led) (ps : List Piece) (t : Led) (p : Piece) → EachWeighed arrows ws fs k ts ps → Weighs arrows ws fs k t p → EachWeighed arrows ws fs k (ts ++ t ∷ []) (ps ++ p ∷ [])
   each_push [] [] t p e w = (w, tt)
   each_push [] (q ∷ ps) t p e w = absurd e
   each_push (s ∷ ts) [] t p e w = absurd e
   each_push (s ∷ ts) (q ∷ ps) t p (h, e) w = (h, each_push ts ps t p e w)
 
-  pub each_more : (ts : List Led) (ps qs : List Piece) (i : ℕ) (t : Led) (p : Piece) → t ≡ get_or ts i t → i < length ts → EachWeighed arrows ws k (take i ts) ps → Weighs arrows ws k t p → qs ≡ ps ++ p ∷ []
-      → EachWeighed arrows ws k (take (i + 1) ts) qs
+  pub each_more : (ts : List Led) (ps qs : List Piece) (i : ℕ) (t : Led) (p : Piece) → t ≡ get_or ts i t → i < length ts → EachWeighed arrows ws fs k (take i ts) ps → Weighs arrows ws fs k t p → qs ≡ ps ++ p ∷ []
+      → EachWeighed arrows ws fs k (take (i + 1) ts) qs
   each_more ts ps qs i t p at l e w is =
-      subst (λ (xs : List Led). EachWeighed arrows ws k xs qs) (sym (take_more ts i t l ∙ ap (λ x. take i ts ++ x ∷ []) (sym at)))
-      (subst (λ (xs : List Piece). EachWeighed arrows ws k (take i ts ++ t ∷ []) xs) (sym is) (each_push (take i ts) ps t p e w))
+      subst (λ (xs : List Led). EachWeighed arrows ws fs k xs qs) (sym (take_more ts i t l ∙ ap (λ x. take i ts ++ x ∷ []) (sym at)))
+      (subst (λ (xs : List Piece). EachWeighed arrows ws fs k (take i ts ++ t ∷ []) xs) (sym is) (each_push (take i ts) ps t p e w))
 
 -- the least of some numbers
 least_num : List ℕ → Distance
@@ -82,6 +82,30 @@ second_most k ws (c ∷ v) = go (opens k ws (c ∷ v)) (second_most k ws v)
     go : (b : Bool) → second_of k ws v ≤ max k 1 → cond b (k - length (c ∷ v)) (second_of k ws v) ≤ max k 1
     go true h = omega arith
     go false h = h
+
+-- the second distance asks for those of the depth alone
+opens_append : (k : ℕ) (xs ys : List (List ℕ)) (v : List ℕ) → opens k (xs ++ ys) v ≡ opens k xs v || opens k ys v
+opens_append k [] ys v = refl
+opens_append k (x ∷ xs) ys v =
+    ap (λ b. (eqb (length x) k && (head_of v x && ltb (length v) (length x))) || b) (opens_append k xs ys v) ∙ or_assoc (eqb (length x) k && (head_of v x && ltb (length v) (length x))) (opens k xs v) (opens k ys v)
+  where
+    or_assoc : (a b c : Bool) → a || (b || c) ≡ (a || b) || c
+    or_assoc true b c = refl
+    or_assoc false b c = refl
+
+opens_full : (r : Regex) (n : ℕ) (v : List ℕ) → opens n (tails r (all_codes r) n) v ≡ opens n (listed r n) v
+opens_full r zero v = refl
+opens_full r (suc n) v =
+    sym (opens_append (suc n) (listed r n) (tails r (all_codes r) (suc n)) v
+    ∙ ap (λ b. b || opens (suc n) (tails r (all_codes r) (suc n)) v)
+    (⊎_elim
+    (λ t. let (w, m, (long, _)) = (opens_is (suc n) (listed r n) v).0 t in absurd (omega (arith, (upto_listed r (all_codes r) n w m).0)))
+    (λ f. f)
+    (cases_Bool (opens (suc n) (listed r n) v))))
+
+second_full : (r : Regex) (n : ℕ) (v : List ℕ) → second_of n (tails r (all_codes r) n) v ≡ second_of n (listed r n) v
+second_full r n [] = refl
+second_full r n (c ∷ v) = ap₂ (λ b x. cond b (n - length (c ∷ v)) x) (opens_full r n (c ∷ v)) (second_full r n v)
 
 module _ (r : Regex) (few : size r ≤ 63) where
   abbrev arrows : List ℕ
@@ -138,15 +162,15 @@ module _ (r : Regex) (few : size r ≤ 63) where
     )
 
   -- the pieces of the tails vs that count for q
-  module _ (ws : List (List ℕ)) (k q : ℕ) (ql : q < size r + 1) where
+  module _ (ws fs : List (List ℕ)) (k q : ℕ) (ql : q < size r + 1) where
     q64 : q < 64
     q64 = omega arith
 
     abbrev Each : List (List ℕ) → List Piece → Type 0
-    Each vs ps = EachWeighed arrows ws k (map (led r) vs) ps
+    Each vs ps = EachWeighed arrows ws fs k (map (led r) vs) ps
 
     abbrev Of : List ℕ → Piece → Type 0
-    Of v p = Weighs arrows ws k (led r v) p
+    Of v p = Weighs arrows ws fs k (led r v) p
 
     abbrev spans : List Piece → List ℕ
     spans ps = map (λ (p : Piece). p.span) (filter (λ (p : Piece). bit p.positions q) ps)
@@ -202,31 +226,37 @@ module _ (r : Regex) (few : size r ≤ 63) where
   codes = length (held_of r)
 
   module _ (h : Inhabited r) (W : Bounded r codes) (m k : ℕ) (S : Shortest r m) (le : k ≤ m) (ps : List Piece)
-      (each : EachWeighed arrows (listed r k) k (map (led r) (listed r k)) ps) (q : ℕ) (ql : q < size r + 1) where
+      (each : EachWeighed arrows (listed r k) (tails r codes k) k (map (led r) (listed r k)) ps) (q : ℕ) (ql : q < size r + 1) where
     abbrev found : List (List ℕ)
     found = listed r k
+
+    abbrev fulls : List (List ℕ)
+    fulls = tails r codes k
+
+    nearest_is : (v : List ℕ) (p : Piece) → Weighs arrows found fulls k (led r v) p → finite p.nearest ≡ lesser (first_of found v) (finite (second_of k found v))
+    nearest_is v p P = P.nearest ∙ ap (λ n. lesser (first_of found v) (finite n)) (second_full r k v)
 
     abbrev short : ℕ
     short = short_of k ps q
 
     short_is : short ≡ upto k (way_of r found q)
-    short_is = short_same found k q ql found ps each k
+    short_is = short_same found fulls k q ql found ps each k
 
     abbrev ns : List ℕ
-    ns = numbers found k q ql short ps
+    ns = numbers found fulls k q ql short ps
 
     to_piece : (n : ℕ) → Member n ns → PieceJump r k q n
     to_piece n mem =
-        let (v, vm, (p, P, (t, e))) = to_word found k q ql short found ps n each mem in
+        let (v, vm, (p, P, (t, e))) = to_word found fulls k q ql short found ps n each mem in
         let (a, b) = and_parts (eqb p.span short) (bit p.onward q) t in
         (pieces_listed r h codes W m k S le q n).0
-        (v, (vm, (sym P.span ∙ eqb-true p.span short a ∙ short_is, (onward_is v p.onward P.onward q (omega arith)).0 b)), sym P.nearest ∙ ap finite e)
+        (v, (vm, (sym P.span ∙ eqb-true p.span short a ∙ short_is, (onward_is v p.onward P.onward q (omega arith)).0 b)), sym (nearest_is v p P) ∙ ap finite e)
 
     from_piece : (n : ℕ) → PieceJump r k q n → Member n ns
     from_piece n J =
         let (v, (vm, (long, on)), is) = (pieces_listed r h codes W m k S le q n).1 J in
-        let (p, P, mem) = from_word found k q ql short found ps v each vm (λ p P. and_from _ _ (eq-eqb p.span short (P.span ∙ long ∙ sym short_is)) ((onward_is v p.onward P.onward q (omega arith)).1 on)) in
-        subst (λ i. Member i ns) (finite_same (P.nearest ∙ is)) mem
+        let (p, P, mem) = from_word found fulls k q ql short found ps v each vm (λ p P. and_from _ _ (eq-eqb p.span short (P.span ∙ long ∙ sym short_is)) ((onward_is v p.onward P.onward q (omega arith)).1 on)) in
+        subst (λ i. Member i ns) (finite_same (nearest_is v p P ∙ is)) mem
 
     pub jump_right : PositionJump r k q (jump_of k ps q)
     jump_right =
@@ -275,9 +305,11 @@ module _ (r : Regex) (few : size r ≤ 63) (h : Inhabited r) (W : Within 256 r) 
   all_right read p n out is P long e =
       let ps = vec_items p.list in
       let total : n ≡ size r + 1 = long ∙ ap length is ∙ count r few in
-      let each : EachWeighed (arrows_of r) (listed r k) k (map (led r) (listed r k)) ps =
-      subst (λ (ws : List (List ℕ)). EachWeighed (arrows_of r) ws k (map (led r) (listed r k)) ps) (words_led r (listed r k))
-      (subst (λ (ts : List Led). EachWeighed (arrows_of r) (words ts) k ts ps) L.list (subst (λ (a : List ℕ). EachWeighed a (words (vec_items t.list)) k (vec_items t.list) ps) is P.each)) in
+      let fulls : full_words t ≡ tails r (all_codes r) k = ap words L.full_ones ∙ words_led r (tails r (all_codes r) k) in
+      let each : EachWeighed (arrows_of r) (listed r k) (tails r (all_codes r) k) k (map (led r) (listed r k)) ps =
+      subst (λ (fs : List (List ℕ)). EachWeighed (arrows_of r) (listed r k) fs k (map (led r) (listed r k)) ps) fulls
+      (subst (λ (ws : List (List ℕ)). EachWeighed (arrows_of r) ws (full_words t) k (map (led r) (listed r k)) ps) (words_led r (listed r k))
+      (subst (λ (ts : List Led). EachWeighed (arrows_of r) (words ts) (full_words t) k ts ps) L.list (subst (λ (a : List ℕ). EachWeighed a (all_words t) (full_words t) k (vec_items t.list) ps) is P.each))) in
       record {
         depth = k;
         full = (shortest r, shortest_known r h, depth_right);

@@ -34,7 +34,8 @@ impl<'a> Kinds<'a> {
     // Adds the tails that are one code longer to a list.
     fn add_longer(&self, heap: Global, tail: &Tail, list: &mut Vec<Tail>) -> Result<(), AllocError>
         requires { tail.now ≡ led (language self.now.engine.now.expression.tree) tail.now.codes }
-        ensures { let r = language self.now.engine.now.expression.tree in OnOk result (list.new.items ≡ list.old.items ++ map (led r) (fronted r (all_codes r) tail.now.codes)) }
+        ensures { let r = language self.now.engine.now.expression.tree in
+            OnOk result (list.new.items ≡ list.old.items ++ map (led r) (fronted r (all_codes r) tail.now.codes)) }
     {
         let next = tail.positions().follow(self.engine.arrows());
         let held = self.engine.held();
@@ -55,7 +56,9 @@ impl<'a> Kinds<'a> {
         room: usize,
     ) -> Result<Option<Vec<Tail>>, AllocError>
         requires { AllLed (language self.now.engine.now.expression.tree) level.now }
-        ensures { let r = language self.now.engine.now.expression.tree in IfOk result (λ o. MatchOption o (room < length (longer_by_one r (words level.now))) (λ v. (v.items ≡ map (led r) (longer_by_one r (words level.now))) × (vec_len v ≤ room))) }
+        ensures { let r = language self.now.engine.now.expression.tree in
+            let all = longer_by_one r (words level.now) in
+            IfOk result (λ o. MatchOption o (room < length all) (λ v. (v.items ≡ map (led r) all) × (vec_len v ≤ room))) }
     {
         let mut list = Vec::new(heap);
         for tail in level {

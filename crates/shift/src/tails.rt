@@ -1,11 +1,9 @@
 // The tails by lengths, and their distances.
-ghost use Rattle.std.specs.Prelude.{◌≡◌, IfOk};
+ghost use Rattle.std.specs.Prelude.{◌≡◌, ◌≤◌, length, IfOk};
 ghost use Rattle.syntax.specs.Tree.{language};
 ghost use Rattle.distance.specs.Extremes.{finite, lesser};
 ghost use Rattle.distance.specs.Found.{first_of, opens, second_of};
-ghost use Rattle.shift.specs.Led.{words};
 ghost use Rattle.shift.specs.Excess.{distance};
-ghost use Rattle.shift.specs.Listed.{ListedFor};
 
 use crate::kinds::Kinds;
 use crate::tail::Tail;
@@ -15,56 +13,61 @@ use std::alloc::{AllocError, Global};
 /// Only so many tails are listed: the depth is the greatest length for which all up to it are.
 const LIMIT: usize = 256;
 
-/// Every tail up to a length, the depth, by lengths.
+/// Every tail up to a length, the depth, by lengths; those of the depth begin at `full`.
 #[derive(Drop)]
 pub struct Tails {
     pub(crate) list: Vec<Tail>,
+    full: usize,
     pub(crate) depth: u32,
+    ghost full_in: { full ≤ length list.items },
 }
 
 impl Tails {
+    ghost use Rattle.shift.specs.Listed.{ListedFor, all_words, full_words};
+
     pub(crate) fn of(heap: Global, engine: &SingleStep) -> Result<Tails, AllocError>
         ensures { IfOk result (ListedFor (language engine.now.expression.tree)) }
     {
         let kinds = Kinds::of(heap, engine)?;
         let mut list = Vec::new(heap);
         list.push(Tail::empty(heap))?;
-        let mut start = 0;
+        let mut full = 0;
         let shortest = engine.shortest();
         for depth in 0..shortest {
-            match kinds.longer_than(heap, &list[start..], LIMIT - list.len())? {
-                None => return Ok(Tails { list, depth }),
+            match kinds.longer_than(heap, &list[full..], LIMIT - list.len())? {
+                None => return Ok(Tails { list, full, depth }),
                 Some(mut longer) => {
-                    start = list.len();
+                    full = list.len();
                     list.append(&mut longer)?;
                 }
             }
         }
         Ok(Tails {
             list,
+            full,
             depth: shortest,
         })
     }
 
     // How far the nearest tail goes on from a word, if any does.
     fn first(&self, word: &[u8]) -> Option<usize>
-        ensures { distance result ≡ first_of (words self.now.list.items) word.now }
+        ensures { distance result ≡ first_of (all_words self.now) word.now }
     {
         self.list.iter().filter_map(|tail| tail.excess(word)).min()
     }
 
     // Some tail of the depth goes on from the word.
     fn opens(&self, word: &[u8]) -> bool
-        ensures { result ≡ opens self.now.depth (words self.now.list.items) word.now }
+        ensures { result ≡ opens self.now.depth (full_words self.now) word.now }
     {
-        self.list
+        self.list[self.full..]
             .iter()
             .any(|tail| tail.goes_on(word, self.depth as usize))
     }
 
     // How far it is, from the word or some end of it, to the end of a tail of the depth.
     fn second(&self, word: &[u8]) -> usize
-        ensures { result ≡ second_of self.now.depth (words self.now.list.items) word.now }
+        ensures { result ≡ second_of self.now.depth (full_words self.now) word.now }
     {
         match word.split_first() {
             None => self.depth.max(1) as usize,
@@ -80,7 +83,8 @@ impl Tails {
 
     // The lesser of the two distances.
     pub(crate) fn nearest(&self, word: &[u8]) -> usize
-        ensures { finite result ≡ lesser (first_of (words self.now.list.items) word.now) (finite (second_of self.now.depth (words self.now.list.items) word.now)) }
+        ensures { let second = second_of self.now.depth (full_words self.now) word.now in
+            finite result ≡ lesser (first_of (all_words self.now) word.now) (finite second) }
     {
         let second = self.second(word);
         self.first(word).map_or(second, |first| first.min(second))

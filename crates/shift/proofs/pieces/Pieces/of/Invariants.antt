@@ -1,7 +1,7 @@
 use Rattle.std.proofs.Common.{take, vec_items}
-use Rattle.shift.specs.Led.{words}
+use Rattle.shift.specs.Listed.{all_words, full_words}
 use Rattle.shift.specs.Weighed.{EachWeighed}
 use Rattle.shift.proofs.pieces.Pieces.of.Given as goal
 
 abbrev pub invariant-loop-tail : goal.invariant-loop-tail
-invariant-loop-tail l = EachWeighed l.arrows (words (vec_items l.tails.list)) l.tails.depth (take l.tail-index (vec_items l.tails.list)) (vec_items l.list)
+invariant-loop-tail l = EachWeighed l.arrows (all_words l.tails) (full_words l.tails) l.tails.depth (take l.tail-index (vec_items l.tails.list)) (vec_items l.list)

@@ -8,7 +8,7 @@ abbrev pub invariant-loop-depth : goal.invariant-loop-depth
 invariant-loop-depth l =
     let r = language l.engine.expression.tree in record {
       list : vec_items l.list ≡ map (led r) (listed r l.depth);
-      level : drop l.start (vec_items l.list) ≡ map (led r) (tails r (all_codes r) l.depth);
-      start_in : l.start ≤ length (vec_items l.list);
+      level : drop l.full (vec_items l.list) ≡ map (led r) (tails r (all_codes r) l.depth);
+      full_in : l.full ≤ length (vec_items l.list);
       few : length (listed r l.depth) ≤ 256;
     }
