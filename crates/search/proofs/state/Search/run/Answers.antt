@@ -1,17 +1,8 @@
-use Rattle.std.proofs.Common.{◌≡◌, true, false, map, sym, refl, ◌∙◌, subst, arith}
+use Rattle.std.proofs.Common.{◌≡◌, true, false, map, sym, ◌∙◌, subst, arith}
 use Rattle.search.specs.Rules.{finished}
 use Rattle.search.specs.Calls.{Stepped, Held}
-use Rattle.search.proofs.Running.{runs_start, runs_more, ends_finished, ends_budget, ends_room}
+use Rattle.search.proofs.Running.{runs_more, ends_finished, ends_budget, ends_room}
 use Rattle.search.proofs.state.Search.run.Goals as goal
-
-pub loop-self-init : goal.loop-self-init
-loop-self-init g c = (refl, runs_start _ _ _ _ _ _)
-
-pub overflow_add-done : goal.overflow_add-done
-overflow_add-done g c = omega (arith, c.loop-self.invariant.1.within, c.ranges.budget.fits)
-
-pub loop-self-smaller : goal.loop-self-smaller
-loop-self-smaller g c = omega (arith, c.loop-self.invariant.1.within, c.if-done-budget.false)
 
 pub loop-self-preserved : goal.loop-self-preserved
 loop-self-preserved g c =
