@@ -12,6 +12,7 @@ struct Case {
     room: usize,
 }
 
+// data, each row its own case: no function could say them shorter
 const CASES: [Case; 26] = [
     Case {
         name: "one field",

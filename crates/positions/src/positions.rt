@@ -58,6 +58,7 @@ impl Positions {
     pub fn follow(self, rows: &[Positions]) -> Positions
         ensures { result ≡ followed rows.now self (length rows.now) }
     {
+        // a loop, as in `greatest`: of `fold` over an iterator of this crate's own no proof closed
         let mut all = Positions::empty();
         for p in self {
             all |= rows.get(p).copied().unwrap_or(Positions::empty());

@@ -93,6 +93,7 @@ impl fmt::Display for Stop {
 }
 
 /// A call of a search; a step and a run name their engine by its number.
+// a number and no reference: a rule of this project (docs/DECISIONS.md, "Search")
 #[derive(Clone, Copy, Debug, PartialEq, Eq)]
 pub enum Call {
     Step { engine: usize },

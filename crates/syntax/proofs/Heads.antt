@@ -1,5 +1,5 @@
 -- The automaton accepts what is in the grammar, and lives on the heads of expressions. Assumes nothing.
-use Rattle.std.proofs.Common.{◌≡◌, ℕ, zero, suc, ◌+◌, ◌<◌, ◌≤◌, Bool, true, false, List, [], ◌∷◌, ◌++◌, length, get_or, take, drop, Some, None, Option, sym, refl, ap, ◌∙◌, subst, append_assoc, append-nil, arith, take-append-drop}
+use Rattle.std.proofs.Common.{◌≡◌, ℕ, zero, suc, ◌+◌, ◌<◌, ◌≤◌, Bool, true, false, cond, ◌||◌, eqb, List, [], ◌∷◌, ◌++◌, length, get_or, take, drop, Some, None, Option, IfSome, sym, refl, ap, ◌∙◌, subst, append_assoc, append-nil, arith, take-append-drop}
 use Rattle.std.proofs.lemmas.List.{take-take, take_more, take_all}
 use Rattle.std.proofs.lemmas.Bool.{false≢true}
 use Rattle.syntax.specs.declared.mode.Mode.{Mode}
@@ -7,9 +7,11 @@ use Rattle.syntax.specs.declared.mode.Mode.TheVariants.{Bytes, Fields}
 use Rattle.syntax.specs.declared.grammar.Form.{Form}
 use Rattle.syntax.specs.declared.grammar.State.{State}
 use Rattle.syntax.specs.declared.grammar.Form.TheVariants.{Need, Atom, Marked, Half, Opened, Member, MemberHalf, One, Dash, DashHalf, Two}
-use Rattle.syntax.specs.Grammar.{Tree, expression, written}
+use Rattle.syntax.specs.Grammar.{Tree, expression, written, opening}
 use Rattle.syntax.specs.Refusals.{Begins, OutsideGrammar}
-use Rattle.syntax.specs.Automaton.{state, step, onward, run, final}
+use Rattle.syntax.specs.declared.grammar.Begun.{Begun}
+use Rattle.syntax.specs.declared.grammar.Begun.TheVariants.{Not, Part, Whole}
+use Rattle.syntax.specs.Automaton.{begins, ends, state, pick, start, finish, further, closed, sign, outside, step, onward, run, final}
 use Rattle.syntax.proofs.Complete.{before, behind, form, ended, reads}
 use Rattle.syntax.proofs.Sound.{Good, tree_of}
 
@@ -112,14 +114,66 @@ module _ (m : Mode) where
   pub accepted : (w : List ℕ) (f : Form) (d : ℕ) → reached w ≡ Some (state f d) → final f d ≡ true → (t : Tree m expression) × (written t ≡ w)
   accepted w f d e k = tree_of m w (subst Good (sym e) k)
 
+-- a byte opens one group at most
+module _ (d : ℕ) where
+  abbrev Low : Option State → Type 0
+  Low r = IfSome r (λ s. s.depth ≤ d + 1)
+
+  low_pick : (z : Begun) (x y w : Option State) → Low x → Low y → Low w → Low (pick z x y w)
+  low_pick Not x y w p q r = p
+  low_pick Part x y w p q r = q
+  low_pick Whole x y w p q r = r
+
+  low_cond : (t : Bool) (x y : Option State) → Low x → Low y → Low (cond t x y)
+  low_cond true x y p q = p
+  low_cond false x y p q = q
+
+  low : (f : Form) → Low (Some (state f d))
+  low f = omega arith
+
+  low_start : (m : Mode) (b : ℕ) (h g : Form) → Low (start m b h g d)
+  low_start m b h g = low_pick (begins m b) _ _ _ tt (low h) (low g)
+
+  low_finish : (m : Mode) (b : ℕ) (g : Form) → Low (finish m b g d)
+  low_finish m b g = low_cond (ends m b) _ _ (low g) tt
+
+  low_further : (m : Mode) (b : ℕ) → Low (further m b d)
+  low_further Bytes b = low_cond (eqb b 93) _ _ (low Atom) (low_start Bytes b MemberHalf One)
+  low_further Fields b = low_cond (eqb b 62) _ _ (low Atom) (low_cond (eqb b 44) _ _ (low Member) tt)
+
+  low_sign : (m : Mode) (b : ℕ) (x y z : Option State) → Low x → Low y → Low z → Low (sign m b x y z d)
+  low_sign m b x y z p q r =
+      low_cond (eqb b 40) _ _ (omega arith) (low_cond (eqb b 41) _ _ p (low_cond (eqb b 124) _ _ q (low_cond (eqb b 42 || (eqb b 43 || eqb b 63)) _ _ r (low_cond (eqb b 46) _ _ (low Atom) (low_cond (eqb b (opening m)) _ _ (low Opened) tt)))))
+
+  low_outside : (m : Mode) (b : ℕ) (x y z : Option State) → Low x → Low y → Low z → Low (outside m b x y z d)
+  low_outside Bytes b x y z p q r = low_pick (begins Bytes b) _ _ _ (low_sign Bytes b x y z p q r) (low Half) (low Atom)
+  low_outside Fields b x y z p q r = low_sign Fields b x y z p q r
+
+low_closed : (d : ℕ) → Low d (closed d)
+low_closed zero = tt
+low_closed (suc d) = omega arith
+
+low_step : (m : Mode) (f : Form) (d b : ℕ) → Low d (step m f d b)
+low_step m Need d b = low_outside d m b _ _ _ tt tt tt
+low_step m Atom d b = low_outside d m b _ _ _ (low_closed d) (low d Need) (low d Marked)
+low_step m Marked d b = low_outside d m b _ _ _ (low_closed d) (low d Need) tt
+low_step m Half d b = low_finish d m b Atom
+low_step m Opened d b = low_cond d (eqb b 94) _ _ (low d Member) (low_start d m b MemberHalf One)
+low_step m Member d b = low_start d m b MemberHalf One
+low_step m MemberHalf d b = low_finish d m b One
+low_step m One d b = low_cond d (eqb b 45) _ _ (low d Dash) (low_further d m b)
+low_step m Dash d b = low_start d m b DashHalf Two
+low_step m DashHalf d b = low_finish d m b Two
+low_step m Two d b = low_further d m b
+
 -- the state of the loop, before the byte at p
 pub record Reading (m : Mode) (w : List ℕ) (f : Form) (d p : ℕ) : Type 0 where
   pub low : d ≤ p
   pub so_far : reached m (take p w) ≡ Some (state f d)
 
-pub one_more : (m : Mode) (w : List ℕ) (f g : Form) (d e p : ℕ) → Reading m w f d p → p < length w → Some (state g e) ≡ step m f d (get_or w p 0) → e ≤ d + 1 → Reading m w g e (p + 1)
-one_more m w f g d e p h l s k = record {
-  low = omega (arith, h.low, k);
+pub one_more : (m : Mode) (w : List ℕ) (f g : Form) (d e p : ℕ) → Reading m w f d p → p < length w → Some (state g e) ≡ step m f d (get_or w p 0) → Reading m w g e (p + 1)
+one_more m w f g d e p h l s = record {
+  low = let k = subst (Low d) (sym s) (low_step m f d (get_or w p 0)) in omega (arith, h.low, k);
   so_far = ap (λ z. reached m z) (take_more w p 0 l) ∙ run_append m (take p w) (get_or w p 0 ∷ []) Need 0 ∙ ap (λ z. onward z (run m (get_or w p 0 ∷ []))) h.so_far ∙ ap (λ z. onward z (run m [])) (sym s);
 }
 

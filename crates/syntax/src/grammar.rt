@@ -1,5 +1,5 @@
 // Reads an expression byte by byte, and tells whether it is in the grammar.
-ghost use Rattle.std.specs.Prelude.{◌≡◌, ◌+◌, ◌^◌, ◌<◌, ◌≤◌, length, IfSome, MatchResult};
+ghost use Rattle.std.specs.Prelude.{◌≡◌, ◌^◌, ◌<◌, ◌≤◌, length, MatchResult};
 ghost use Rattle.syntax.specs.Grammar.{special, Tree, expression, written};
 ghost use Rattle.syntax.specs.Automaton.{bars, begins, closes, ends, final, finish, further, marks, outside, sign, start, state, step};
 ghost use Rattle.syntax.specs.Reading.{Refusal};
@@ -74,6 +74,7 @@ fn value_ends(mode: Mode, b: u8) -> bool
 }
 
 // How far an expression was read: what was read last, and how many groups are open.
+// That these are few is no invariant of the type, since each byte may open one more: the loop keeps it.
 #[derive(Clone, Copy, Debug, PartialEq, Eq)]
 pub struct State {
     form: Form,
@@ -90,8 +91,7 @@ impl State {
 
     // Where a value has to begin.
     fn start(self, mode: Mode, b: u8, half: Form, whole: Form) -> Option<State>
-        ensures value { result ≡ start mode b half whole self.depth }
-        ensures low { IfSome result (λ s. s.depth ≤ self.depth + 1) }
+        ensures { result ≡ start mode b half whole self.depth }
     {
         match value_begins(mode, b) {
             Begun::Not => None,
@@ -102,16 +102,14 @@ impl State {
 
     // Behind the first byte of a value of two.
     fn finish(self, mode: Mode, b: u8, whole: Form) -> Option<State>
-        ensures value { result ≡ finish mode b whole self.depth }
-        ensures low { IfSome result (λ s. s.depth ≤ self.depth + 1) }
+        ensures { result ≡ finish mode b whole self.depth }
     {
         value_ends(mode, b).then_some(self.to(whole))
     }
 
     // Behind a member.
     fn further(self, mode: Mode, b: u8) -> Option<State>
-        ensures value { result ≡ further mode b self.depth }
-        ensures low { IfSome result (λ s. s.depth ≤ self.depth + 1) }
+        ensures { result ≡ further mode b self.depth }
     {
         if b == mode.closes() {
             return Some(self.to(Form::Atom));
@@ -124,8 +122,7 @@ impl State {
 
     // Behind `)`, if it may stand here.
     fn closed(self) -> Option<State>
-        ensures value { result ≡ closes self.form self.depth }
-        ensures low { IfSome result (λ s. s.depth ≤ self.depth + 1) }
+        ensures { result ≡ closes self.form self.depth }
     {
         match self.form {
             Form::Atom | Form::Marked => Some(State {
@@ -138,8 +135,7 @@ impl State {
 
     // Behind `|`, if it may stand here.
     fn barred(self) -> Option<State>
-        ensures value { result ≡ bars self.form self.depth }
-        ensures low { IfSome result (λ s. s.depth ≤ self.depth + 1) }
+        ensures { result ≡ bars self.form self.depth }
     {
         match self.form {
             Form::Atom | Form::Marked => Some(self.to(Form::Need)),
@@ -149,8 +145,7 @@ impl State {
 
     // Behind a mark, if it may stand here.
     fn marked(self) -> Option<State>
-        ensures value { result ≡ marks self.form self.depth }
-        ensures low { IfSome result (λ s. s.depth ≤ self.depth + 1) }
+        ensures { result ≡ marks self.form self.depth }
     {
         match self.form {
             Form::Atom => Some(self.to(Form::Marked)),
@@ -161,8 +156,7 @@ impl State {
     // Outside sets, at no unit.
     fn sign(self, mode: Mode, b: u8) -> Option<State>
         requires { self.depth < 2 ^ 32 }
-        ensures value { result ≡ sign mode b (closes self.form self.depth) (bars self.form self.depth) (marks self.form self.depth) self.depth }
-        ensures low { IfSome result (λ s. s.depth ≤ self.depth + 1) }
+        ensures { result ≡ sign mode b (closes self.form self.depth) (bars self.form self.depth) (marks self.form self.depth) self.depth }
     {
         match b {
             b'(' => Some(State {
@@ -179,8 +173,7 @@ impl State {
 
     fn outside(self, mode: Mode, b: u8) -> Option<State>
         requires { self.depth < 2 ^ 32 }
-        ensures value { result ≡ outside mode b (closes self.form self.depth) (bars self.form self.depth) (marks self.form self.depth) self.depth }
-        ensures low { IfSome result (λ s. s.depth ≤ self.depth + 1) }
+        ensures { result ≡ outside mode b (closes self.form self.depth) (bars self.form self.depth) (marks self.form self.depth) self.depth }
     {
         match mode {
             Mode::Bytes => match value_begins(mode, b) {
@@ -194,8 +187,7 @@ impl State {
 
     fn step(self, mode: Mode, b: u8) -> Option<State>
         requires { self.depth < 2 ^ 32 }
-        ensures value { result ≡ step mode self.form self.depth b }
-        ensures low { IfSome result (λ s. s.depth ≤ self.depth + 1) }
+        ensures { result ≡ step mode self.form self.depth b }
     {
         match self.form {
             Form::Need | Form::Atom | Form::Marked => self.outside(mode, b),

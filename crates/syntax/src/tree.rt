@@ -31,6 +31,8 @@ pub enum Node {
     Marked(Mark, Box<Node>),
 }
 
+// One maker for each kind of node, since each promises another record; one that took the constructor could promise none.
+
 pub(crate) fn grouped(heap: Global, a: Node) -> Result<Node, Fault>
     ensures { MatchResult result (λ e. Grouped a e) (λ f. f ≡ Memory) }
 {

@@ -29,6 +29,7 @@ pub(crate) fn run(rt: &HostRuntime) -> anyhow::Result<()> {
             for (start, end) in listing.matches.iter().copied() {
                 println!(rt; "{start} {end}")?;
             }
+            // no `Display` of the listing: the stored output does not count the matches
             let walks = listing.walks;
             let reads = listing.reads;
             println!(rt; "walks {walks} reads {reads}")?;
