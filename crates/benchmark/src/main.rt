@@ -8,7 +8,7 @@ mod texts;
 use engine::Engine;
 use expression::{Expression, Mode, read};
 use finder::list_all;
-use refusal::Fault;
+use refusal::{Fault, LONGEST_TEXT};
 use single::SingleStep;
 use std::alloc::Global;
 use std::env;
@@ -34,7 +34,7 @@ const EXPRESSIONS: [&str; 5] = [
 ];
 
 // As many entries as matches can end at one place of the longest text.
-const ROOM: usize = 65_536;
+const ROOM: usize = LONGEST_TEXT + 1;
 
 fn accepted(heap: Global, expression: &str) -> Result<Expression, Fault> {
     read(heap, Mode::Bytes, expression.as_bytes())
@@ -84,7 +84,7 @@ fn print_row(
 fn compare(rt: &HostRuntime, expression: &str, text: &[u8], rounds: u32) -> anyhow::Result<()> {
     let heap = rt.alloc();
     println!(rt; "{expression}")?;
-    let symbols = (text.len() as u64).saturating_mul(rounds as u64);
+    let symbols = (text.len() as u64).saturating_mul(u64::from(rounds));
     let single = SingleStep::new(heap, accepted(heap, expression)?)?;
     let base = time(rt, &single, text, rounds)?;
     print_row(rt, "single", symbols, base, base)?;
@@ -98,21 +98,15 @@ fn compare(rt: &HostRuntime, expression: &str, text: &[u8], rounds: u32) -> anyh
     Ok(())
 }
 
-fn run(rt: &HostRuntime) -> anyhow::Result<()> {
-    let mut args = env::args(rt)?;
-    let _program = args.next();
-    let Some(rounds) = args.next() else {
+fn main(rt: HostRuntime) -> anyhow::Result<()> {
+    let Some(rounds) = env::args(&rt)?.nth(1) else {
         println!(rt; "benchmark ROUNDS: lists each text so many times")?;
         return Ok(());
     };
     let rounds = rounds.as_str().parse::<u32>()?;
-    let text = note(rt.alloc(), 65535)?;
+    let text = note(rt.alloc(), LONGEST_TEXT)?;
     for expression in EXPRESSIONS.iter() {
-        compare(rt, expression, &text, rounds)?;
+        compare(&rt, expression, &text, rounds)?;
     }
     Ok(())
-}
-
-fn main(rt: HostRuntime) -> anyhow::Result<()> {
-    run(&rt)
 }

@@ -14,6 +14,7 @@ fn stirred(seed: u32) -> u32 {
 pub(crate) fn note(heap: Global, length: usize) -> Result<Vec<u8>, AllocError> {
     let mut text = Vec::new(heap);
     let mut seed: u32 = 7;
+    // no more turns than symbols, so that the check sees an end
     for _ in 0..length {
         if text.len() >= length {
             break;

@@ -1,5 +1,5 @@
 -- What the calls of a script come to, as it is printed. Assumes nothing.
-use Rattle.std.specs.Prelude.{◌≡◌, ℕ, List, [], ◌∷◌, ◌++◌, take, codes, decimal, length, vec_items, Ok, Err}
+use Rattle.std.specs.Prelude.{◌≡◌, ℕ, List, [], ◌∷◌, ◌++◌, take, length, vec_items, Ok, Err}
 use Rattle.std.specs.List.{flat_map}
 use Rattle.refusal.specs.declared.Fault.{Fault}
 use Rattle.refusal.specs.Messages.{fault_text}
@@ -7,21 +7,15 @@ use Rattle.search.specs.declared.numbers.Call.{Call}
 use Rattle.search.specs.declared.numbers.Numbers.{Numbers}
 use Rattle.search.specs.declared.numbers.Answer.{Answer}
 use Rattle.search.specs.declared.numbers.Outcome.{Outcome}
-use Rattle.search.specs.Messages.{answer_text, numbers_text}
+use Rattle.search.specs.Messages.{answer_text, match_line, numbers_text}
 use Rattle.making.specs.Outcomes.{Makes}
 
 -- a text, and a line feed behind it
 abbrev pub line : List ℕ → List ℕ
 line text = text ++ (10 ∷ [])
 
-abbrev pub match_text : ℕ × ℕ → List ℕ
-match_text m = decimal m.0 ++ codes " " ++ decimal m.1
-
 abbrev pub answer_line : Answer → List ℕ
 answer_line answer = line (answer_text answer)
-
-abbrev pub match_line : ℕ × ℕ → List ℕ
-match_line m = line (match_text m)
 
 -- a line for each answer, one for the numbers, and one for each match of the filled part
 abbrev pub outcome_text : Numbers → List Answer → List (ℕ × ℕ) → List ℕ

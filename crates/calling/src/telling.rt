@@ -1,13 +1,15 @@
 // What the calls of a script come to, as it is printed.
 ghost use Rattle.std.specs.Prelude.{◌≡◌, IfOk, string_bytes};
 ghost use Rattle.std.specs.List.{flat_map};
-ghost use Rattle.calling.specs.Told.{answer_line, match_line, outcome_text, Tells};
+ghost use Rattle.search.specs.Messages.{match_line};
+ghost use Rattle.calling.specs.Told.{answer_line, outcome_text, Tells};
 
 use making::make;
 use script::Script;
 use search::{Answer, Match, Numbers};
 use std::alloc::{AllocError, Global};
 
+// two loops: one over any item would have to be told what each call of a printer writes
 fn answers_text(heap: Global, answers: &[Answer]) -> Result<String, AllocError>
     ensures { IfOk result (λ text. string_bytes text ≡ flat_map answer_line answers.now) }
 {

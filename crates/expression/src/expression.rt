@@ -1,6 +1,7 @@
 // An accepted expression, and what engines are built from.
 ghost use Rattle.std.specs.Prelude.{◌≡◌, ◌+◌, ◌≤◌, true};
-ghost use Rattle.regular.specs.Language.{Within, Within-prop, shortest};
+ghost use Rattle.regular.specs.Language.{Within, shortest};
+ghost use Rattle.regular.proofs.Bounded.{within_prop};
 ghost use Rattle.regular.specs.Positions.{begins, ends, holds, size};
 ghost use Rattle.regular.specs.Sets.{as_set};
 ghost use Rattle.syntax.specs.Tree.{exact, full, language};
@@ -19,7 +20,7 @@ pub struct Expression {
     ghost few: { size (language tree) ≤ 63 },
     ghost full: { full tree ≡ true },
     ghost exact: { exact tree ≡ true },
-    ghost within: { Within 256 (language tree) } by { Within-prop 256 (language tree) },
+    ghost within: { Within 256 (language tree) } by { within_prop 256 (language tree) },
     ghost outlined: { Outlines (language tree) 0 outline },
 }
 
@@ -66,7 +67,7 @@ fn holds(node: &Node, before: u32, position: u32, code: u8) -> bool
     ensures { result ≡ holds (language node.now) before position code }
 {
     match node {
-        Node::Atom(atom) => position == before + 1 && atom.codes[code as usize],
+        Node::Atom(atom) => position == before + 1 && atom.codes[usize::from(code)],
         Node::Join(a, b) | Node::Either(a, b) => {
             holds(a, before, position, code) || holds(b, outline_of(a, before).end, position, code)
         }

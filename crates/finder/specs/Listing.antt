@@ -1,6 +1,5 @@
 -- What listing a whole text gives: every match, and what finding them took. Assumes nothing.
 use Rattle.std.specs.Prelude.{◌≡◌, ℕ, ◌+◌, ◌<◌, ◌≤◌, List, ◌++◌, length, take, vec_items, Result, MatchResult}
-use Rattle.refusal.specs.declared.TheConstants.{LONGEST_TEXT}
 use Rattle.refusal.specs.declared.Fault.{Fault}
 use Rattle.refusal.specs.declared.Fault.TheVariants.{TextTooLong, NoRoom, Memory}
 use Rattle.regular.specs.Language.{Regex}
@@ -29,7 +28,7 @@ module _ (r : Regex) (shift : List ℕ → ℕ) (t : List ℕ) where
 
   -- a text is too long, or at some place more matches end than there is room in all, or memory is wanting
   pub data NotListed (room : ℕ) : Fault → Type 0 where
-    long : LONGEST_TEXT < length t → NotListed room TextTooLong
+    long : 65535 < length t → NotListed room TextTooLong
     narrow : (p : ℕ) → p ≤ length t → room < length (ending r t p) → NotListed room (NoRoom p (length (ending r t p)))
     no_memory : NotListed room Memory
 

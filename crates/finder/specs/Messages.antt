@@ -1,11 +1,8 @@
 -- How a listing is printed. Assumes nothing.
 use Rattle.std.specs.Prelude.{ℕ, List, ◌++◌, codes, decimal, vec_items, vec_len}
 use Rattle.std.specs.List.{flat_map}
+use Rattle.search.specs.Messages.{match_line}
 use Rattle.finder.specs.declared.Listing.{Listing}
-
--- a match has a line of its own
-abbrev pub match_line : ℕ × ℕ → List ℕ
-match_line m = decimal m.0 ++ (codes " " ++ (decimal m.1 ++ codes "\n"))
 
 abbrev pub listing_text : Listing → List ℕ
 listing_text l =

@@ -1,6 +1,5 @@
 -- What a label is: its edition, its count of entries, the entries, and when all of it is well formed. Assumes nothing.
 use Rattle.std.specs.Prelude.{◌≡◌, ℕ, ◌+◌, ◌*◌, ◌<◌, ◌≤◌, Bool, ◌&&◌, List, length, drop, nat_le, slice_index}
-use Rattle.label.specs.declared.TheConstants.{EDITION, MOST_ENTRIES, HIGHEST_IDENTIFIER}
 use Rattle.label.specs.declared.Field.{Field}
 
 abbrev pub edition : List ℕ → ℕ
@@ -32,14 +31,14 @@ pub record Within (label : List ℕ) (f : Field) : Type 0 where
   pub inside : f.offset + f.length ≤ length label
 
 pub record Sound (label : List ℕ) (f : Field) : Type 0 where
-  pub known : f.identifier ≤ HIGHEST_IDENTIFIER
+  pub known : f.identifier ≤ 99
   pub within : Within label f
 
 -- the header is whole
 pub record Headed (label : List ℕ) : Type 0 where
   pub begun : 2 ≤ length label
-  pub third : edition label ≡ EDITION
-  pub few : count label ≤ MOST_ENTRIES
+  pub third : edition label ≡ 3
+  pub few : count label ≤ 32
   pub whole : header_end label ≤ length label
 
 pub record WellFormed (label : List ℕ) : Type 0 where

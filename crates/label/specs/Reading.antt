@@ -2,7 +2,6 @@
 use Rattle.std.specs.Prelude.{◌≡◌, ℕ, ◌<◌, ◌≤◌, true, List, length, drop, is_ok, Err, Result, MatchResult, ◌≢◌, slice_index_or}
 use Rattle.refusal.specs.declared.Fault.{Fault}
 use Rattle.refusal.specs.declared.Fault.TheVariants.{LabelTooShort, UnknownEdition, TooManyEntries, TooFewFields, UnknownIdentifier, PartOutside}
-use Rattle.label.specs.declared.TheConstants.{EDITION, MOST_ENTRIES, HIGHEST_IDENTIFIER}
 use Rattle.label.specs.declared.Field.{Field}
 use Rattle.label.specs.Labels.{edition, count, place, header_end, entry, Within, Sound, Headed, WellFormed}
 
@@ -13,15 +12,15 @@ pub record Looked (label : List ℕ) (i : ℕ) : Type 0 where
 
 -- the first entry that is not sound, by its own place
 pub data Unsound (label : List ℕ) : Fault → Type 0 where
-  unknown : (i : ℕ) → Looked label i → HIGHEST_IDENTIFIER < (entry label i).identifier → Unsound label (UnknownIdentifier (place i))
-  outside : (i : ℕ) → Looked label i → (entry label i).identifier ≤ HIGHEST_IDENTIFIER → (Within label (entry label i) → ⊥) → Unsound label (PartOutside (place i))
+  unknown : (i : ℕ) → Looked label i → 99 < (entry label i).identifier → Unsound label (UnknownIdentifier (place i))
+  outside : (i : ℕ) → Looked label i → (entry label i).identifier ≤ 99 → (Within label (entry label i) → ⊥) → Unsound label (PartOutside (place i))
 
 -- why a label is refused where the field list has room for so many fields; each refusal stands aside for those above it
 pub data Refused (label : List ℕ) (room : ℕ) : Fault → Type 0 where
   short : length label < 2 → Refused label room (LabelTooShort (length label))
-  other_edition : 2 ≤ length label → (edition label ≢ EDITION) → Refused label room UnknownEdition
-  many : 2 ≤ length label → edition label ≡ EDITION → MOST_ENTRIES < count label → Refused label room TooManyEntries
-  cut_off : 2 ≤ length label → edition label ≡ EDITION → count label ≤ MOST_ENTRIES → length label < header_end label → Refused label room (LabelTooShort (length label))
+  other_edition : 2 ≤ length label → (edition label ≢ 3) → Refused label room UnknownEdition
+  many : 2 ≤ length label → edition label ≡ 3 → 32 < count label → Refused label room TooManyEntries
+  cut_off : 2 ≤ length label → edition label ≡ 3 → count label ≤ 32 → length label < header_end label → Refused label room (LabelTooShort (length label))
   narrow : Headed label → room < count label → Refused label room TooFewFields
   unsound : {f : Fault} → Headed label → count label ≤ room → Unsound label f → Refused label room f
 
@@ -31,7 +30,7 @@ pub record Filled (label : List ℕ) (before after : List Field) (n : ℕ) : Typ
   pub room : count label ≤ length before
   pub counted : n ≡ count label
   pub fields : (i : ℕ) (d : Field) → i < n → slice_index_or after i d ≡ entry label i
-  pub known : (i : ℕ) (d : Field) → i < n → (slice_index_or after i d).identifier ≤ HIGHEST_IDENTIFIER
+  pub known : (i : ℕ) (d : Field) → i < n → (slice_index_or after i d).identifier ≤ 99
   pub rest : drop n after ≡ drop n before
 
 -- a label that is refused leaves the list as it was

@@ -70,6 +70,7 @@ impl<'a> Header<'a> {
         ensures { MatchResult result (λ _. (i : ℕ) → i < count self.now.label.now → Sound self.now.label.now (entry self.now.label.now i)) (Unsound self.now.label.now) }
     {
         let header_end = place(self.count());
+        // a form that this project fixes (docs/DECISIONS.md)
         for (i, &bytes) in self.entries.iter().enumerate() {
             let field = Field::from(bytes);
             if field.identifier > HIGHEST_IDENTIFIER {
@@ -88,6 +89,7 @@ impl<'a> Header<'a> {
         ensures fields { (i : ℕ) (d : Field) → i < count self.now.label.now → slice_index_or fields.new i d ≡ entry self.now.label.now i }
         ensures rest { drop (count self.now.label.now) fields.new ≡ drop (count self.now.label.now) fields.old }
     {
+        // by index, since a proof knows nothing of what an adapter of `iter_mut` writes
         for (i, &bytes) in self.entries.iter().enumerate() {
             fields[i] = Field::from(bytes);
         }

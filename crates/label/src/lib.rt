@@ -24,6 +24,7 @@ pub const MOST_ENTRIES: u8 = 32;
 pub const HIGHEST_IDENTIFIER: u8 = 99;
 
 /// What an entry of a label says: the field's identifier, and where its bytes lie in the label.
+// a form that this project fixes (docs/DECISIONS.md)
 #[derive(Clone, Copy, Debug, PartialEq, Eq)]
 pub struct Field {
     pub identifier: u8,

@@ -38,6 +38,7 @@ pub fn decimal(bytes: &[u8], limit: u32) -> Option<u32>
     if bytes.is_empty() {
         return None;
     }
+    // by hand, since the library's `parse` takes a sign too
     let mut n: u64 = 0;
     for &digit in bytes {
         if !digit.is_ascii_digit() {

@@ -1,6 +1,5 @@
 -- What calls on a search for a byte expression come to. Assumes nothing.
 use Rattle.std.specs.Prelude.{◌≡◌, ℕ, ◌<◌, true, ◌⊎◌, List, length, vec_items, Result, MatchResult}
-use Rattle.refusal.specs.declared.TheConstants.{LONGEST_TEXT}
 use Rattle.refusal.specs.declared.Fault.{Fault}
 use Rattle.refusal.specs.declared.Fault.TheVariants.{TextTooLong}
 use Rattle.regular.specs.Language.{Tail}
@@ -27,7 +26,7 @@ module _ (expression text : List ℕ) (calls : List Call) (table table' : List (
 
   -- the expression is refused or memory is wanting, or the word engine is named and the expression is no plain word, or the text is too long; and the table is as it was
   pub record NotMade (fault : Fault) : Type 0 where
-    pub why : Unread expression fault ⊎ (((asks_word calls ≡ true) × NoWord expression fault) ⊎ ((fault ≡ TextTooLong) × (LONGEST_TEXT < length text)))
+    pub why : Unread expression fault ⊎ (((asks_word calls ≡ true) × NoWord expression fault) ⊎ ((fault ≡ TextTooLong) × (65535 < length text)))
     pub kept : table' ≡ table
 
   abbrev pub Makes : Result Outcome Fault → Type 0

@@ -15,6 +15,7 @@ impl Iterator for Members {
 
     ghost remaining = { item_count (λ s. members s.bits) };
 
+    #[inline]
     fn next(&mut self) -> Option<usize> {
         if self.bits == 0 {
             return None;

@@ -41,6 +41,7 @@ impl Positions {
     }
 
     /// Whether a position is in the set.
+    #[inline]
     pub fn has(self, position: usize) -> bool
         ensures { result ≡ bit self position }
     {
@@ -48,6 +49,7 @@ impl Positions {
     }
 
     /// Whether no position is in the set.
+    #[inline]
     pub fn is_empty(self) -> bool
         ensures { IsTrue result ↔ (self ≡ 0) }
     {
@@ -55,6 +57,7 @@ impl Positions {
     }
 
     /// The union of the rows of the set's positions: `a.follow(&[b, c])` is `c` where `a` has 1 and not 0.
+    #[inline]
     pub fn follow(self, rows: &[Positions]) -> Positions
         ensures { result ≡ followed rows.now self (length rows.now) }
     {
@@ -67,6 +70,7 @@ impl Positions {
     }
 
     /// The greatest of the numbers of the set's positions, and at least 1.
+    #[inline]
     pub fn greatest(self, numbers: &[u32]) -> u32
         ensures value { result ≡ greatest_in numbers.now self (length numbers.now) }
         ensures least { 1 ≤ result }
@@ -93,11 +97,30 @@ impl Positions {
     }
 }
 
+/// The set whose positions are the bits of a number.
+impl From<u64> for Positions {
+    ghost from_gives = { λ bits s. s ≡ bits };
+
+    fn from(bits: u64) -> Positions {
+        Positions { bits }
+    }
+}
+
+/// The number whose bits are the set's positions: 6 for 1 and 2.
+impl From<Positions> for u64 {
+    ghost from_gives = { λ s bits. bits ≡ s };
+
+    fn from(set: Positions) -> u64 {
+        set.bits
+    }
+}
+
 impl BitOr for Positions {
     type Output = Positions;
 
     ghost bitor_gives = { λ a b r. r ≡ bit_or a b };
 
+    #[inline]
     fn bitor(self, other: Positions) -> Positions {
         Positions {
             bits: self.bits | other.bits,
@@ -108,6 +131,7 @@ impl BitOr for Positions {
 impl BitOrAssign for Positions {
     ghost bitor_assign_gives = { λ a b r. r ≡ bit_or a b };
 
+    #[inline]
     fn bitor_assign(&mut self, other: Positions) {
         *self = *self | other;
     }
@@ -118,6 +142,7 @@ impl BitAnd for Positions {
 
     ghost bitand_gives = { λ a b r. r ≡ bit_and a b };
 
+    #[inline]
     fn bitand(self, other: Positions) -> Positions {
         Positions {
             bits: self.bits & other.bits,
@@ -133,6 +158,7 @@ impl IntoIterator for Positions {
 
     ghost into_iter_gives = { λ s r. r.bits ≡ s };
 
+    #[inline]
     fn into_iter(self) -> Members {
         Members { bits: self.bits }
     }

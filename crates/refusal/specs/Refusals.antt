@@ -3,7 +3,6 @@ use Rattle.std.specs.Prelude.{ℕ, Some, None, Option}
 use Rattle.std.specs.Option.{option_map}
 use Rattle.refusal.specs.declared.Layer.{Layer}
 use Rattle.refusal.specs.declared.Layer.TheVariants.{Expression, Engine, Search, Label}
-use Rattle.refusal.specs.declared.TheConstants.{LONGEST_EXPRESSION, LONGEST_TEXT}
 use Rattle.refusal.specs.declared.Refusal.{Refusal}
 use Rattle.refusal.specs.declared.Fault.{Fault}
 use Rattle.refusal.specs.declared.Fault.TheVariants.{ExpressionTooLong, NotInGrammar, TooDeep, ReversedRange, EmptySet, TooManyPositions, NoPlainWord, TextTooLong, Finished, NoRoom, BeyondText, LabelTooShort, UnknownEdition, TooManyEntries, TooFewFields, UnknownIdentifier, PartOutside, Memory}
@@ -13,14 +12,14 @@ row n l p = Some (record { number = n; layer = l; place = p })
 
 -- want of memory is no refusal of the list
 abbrev pub refusal : Fault → Option Refusal
-refusal ExpressionTooLong = row 1 Expression LONGEST_EXPRESSION
+refusal ExpressionTooLong = row 1 Expression 1024
 refusal (NotInGrammar p) = row 2 Expression p
 refusal (TooDeep p) = row 3 Expression p
 refusal (ReversedRange p) = row 4 Expression p
 refusal (EmptySet p) = row 5 Expression p
 refusal (TooManyPositions p) = row 6 Expression p
 refusal NoPlainWord = row 7 Engine 0
-refusal TextTooLong = row 8 Search LONGEST_TEXT
+refusal TextTooLong = row 8 Search 65535
 refusal (Finished p) = row 9 Search p
 refusal (NoRoom p matches) = row 10 Search p
 refusal (BeyondText p) = row 11 Search p

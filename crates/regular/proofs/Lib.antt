@@ -14,3 +14,4 @@ pub mod Longest
 pub mod Jumps
 pub mod Bits
 pub mod Sets
+pub mod Bounded

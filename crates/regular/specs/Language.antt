@@ -1,5 +1,4 @@
 -- Regular expressions over codes, and the words that each stands for. Assumes nothing.
-use Rattle.std.specs.Coded.{×_prop, Π_prop, le_prop}
 use Rattle.std.specs.Prelude.{◌≡◌, ℕ, ◌+◌, ◌<◌, ◌≤◌, min, Bool, true, ◌⊎◌, List, [], ◌∷◌, ◌++◌, length}
 
 -- one symbol out of a set, one after the other, either of two, any number in a row, at least one in a row, none or one
@@ -68,15 +67,6 @@ Within codes (either a b) = Within codes a × Within codes b
 Within codes (star a) = Within codes a
 Within codes (plus a) = Within codes a
 Within codes (maybe a) = Within codes a
-
--- .. and that says no more than that it is so
-pub Within-prop : (codes : ℕ) (r : Regex) → IsProp (Within codes r)
-Within-prop codes (one s) = Π_prop (λ c. Π_prop (λ _. le_prop))
-Within-prop codes (join a b) = ×_prop (Within-prop codes a) (Within-prop codes b)
-Within-prop codes (either a b) = ×_prop (Within-prop codes a) (Within-prop codes b)
-Within-prop codes (star a) = Within-prop codes a
-Within-prop codes (plus a) = Within-prop codes a
-Within-prop codes (maybe a) = Within-prop codes a
 
 -- the shortest length that is computed is the length of a shortest word
 abbrev pub ShortestKnown : Type 0

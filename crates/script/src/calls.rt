@@ -6,8 +6,8 @@ use crate::engines::EngineName;
 use lines::{decimal, split_once};
 use search::Call;
 
-/// The most entries that a script may give the table: the matches that can end at one place of the longest text.
-pub const MOST_ENTRIES: u32 = 65_536;
+// The most entries that a script may give the table: the matches that can end at one place of the longest text.
+const MOST_ENTRIES: u32 = 65_536;
 
 fn step_in(line: &[u8]) -> Option<Call>
     ensures { MatchOption result ((e : ℕ) → Writes line.now (Step e) → ⊥) (λ c. Writes line.now c) }

@@ -1,4 +1,4 @@
--- How the numbers of a search, a run's end and an answer are printed. Assumes nothing.
+-- How the numbers of a search, a run's end, an answer and a match are printed. Assumes nothing.
 use Rattle.std.specs.Prelude.{ℕ, List, [], ◌++◌, codes, decimal}
 use Rattle.refusal.specs.declared.Fault.{Fault}
 use Rattle.refusal.specs.declared.Fault.TheVariants.{NoRoom}
@@ -32,3 +32,7 @@ answer_text (Ran steps stop) = codes "ran " ++ decimal steps ++ codes " " ++ sto
 answer_text (Cleared count) = codes "cleared " ++ decimal count
 answer_text Moved = codes "moved"
 answer_text (Refused fault) = fault_text fault ++ matches_text fault
+
+-- a match has a line of its own
+abbrev pub match_line : ℕ × ℕ → List ℕ
+match_line m = decimal m.0 ++ (codes " " ++ (decimal m.1 ++ codes "\n"))

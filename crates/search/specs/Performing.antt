@@ -1,7 +1,6 @@
 -- What one call, and a row of them, comes to on a search and a table, for any symbols and engines. Assumes nothing.
 use Rattle.std.specs.Prelude.{◌≡◌, ℕ, ◌<◌, ◌≤◌, ◌⊎◌, List, map, length, take, vec_items, Result, MatchResult, slice_index_or}
 use Rattle.regular.specs.Language.{Regex}
-use Rattle.refusal.specs.declared.TheConstants.{LONGEST_TEXT}
 use Rattle.refusal.specs.declared.Fault.{Fault}
 use Rattle.refusal.specs.declared.Fault.TheVariants.{TextTooLong, Memory}
 use Rattle.search.specs.Reckoning.{Reckoned, called, told, left}
@@ -29,11 +28,11 @@ named engines spare i = slice_index_or engines i spare
 -- a row of calls: the list theorem for each expression that all engines are of; or the text is too long, or memory is wanting, and the table is as it was
 module _ {S E : Type 0} (code : S → ℕ) (expression : E → Regex) (shift : E → List ℕ → ℕ) (text : List S) (engines : List E) (spare : E) (calls : List Call) (table table' : List (ℕ × ℕ)) where
   pub record Performed (outcome : Outcome) : Type 0 where
-    pub short : length text ≤ LONGEST_TEXT
+    pub short : length text ≤ 65535
     pub theorem : (r : Regex) → ((i : ℕ) → expression (named engines spare i) ≡ r) → ListTheorem r (map code text) (λ i. shift (named engines spare i)) calls table table' outcome.numbers (vec_items outcome.answers)
 
   pub record NotPerformed (fault : Fault) : Type 0 where
-    pub why : ((LONGEST_TEXT < length text) × (fault ≡ TextTooLong)) ⊎ ((length text ≤ LONGEST_TEXT) × (fault ≡ Memory))
+    pub why : ((65535 < length text) × (fault ≡ TextTooLong)) ⊎ ((length text ≤ 65535) × (fault ≡ Memory))
     pub kept : table' ≡ table
 
   abbrev pub Performs : Result Outcome Fault → Type 0

@@ -6,6 +6,7 @@ use refusal::Fault;
 use std::fmt;
 
 /// A match: the places where it starts and ends. In `xabc` the match of `abc` is `(1, 4)`.
+// a form that this project fixes (docs/DECISIONS.md)
 pub type Match = (u32, u32);
 
 /// The five numbers of a search.
@@ -15,7 +16,7 @@ pub struct Numbers {
     pub from: u32,
     /// .. and before this one, the next place to look at.
     pub next: u32,
-    /// How many entries of the table hold them.
+    /// How many entries of the table hold them. The table is the caller's, and lent.
     pub filled: u32,
     /// How many steps were granted since `from`.
     pub walks: u32,

@@ -1,7 +1,6 @@
 mod calls;
 
 ghost use Rattle.std.specs.Prelude.{◌+◌, ◌-◌, ◌*◌, ◌≤◌, length};
-ghost use Rattle.refusal.specs.declared.TheConstants.{LONGEST_TEXT};
 
 use crate::numbers::Numbers;
 
@@ -10,10 +9,10 @@ use crate::numbers::Numbers;
 pub struct Search<'t, S> {
     text: &'t [S],
     numbers: Numbers,
-    ghost short: { length text.now ≤ LONGEST_TEXT },
+    ghost short: { length text.now ≤ 65535 },
     ghost order: { numbers.from ≤ numbers.next },
     ghost inside: { numbers.next ≤ length text.now + 1 },
     ghost few: { numbers.walks ≤ numbers.next - numbers.from },
-    ghost fits: { numbers.filled ≤ (LONGEST_TEXT + 1) * numbers.next - LONGEST_TEXT },
-    ghost some: { numbers.reads ≤ LONGEST_TEXT * numbers.next },
+    ghost fits: { numbers.filled ≤ 65536 * numbers.next - 65535 },
+    ghost some: { numbers.reads ≤ 65535 * numbers.next },
 }

@@ -100,12 +100,14 @@ impl<'a, S: Symbol, E: Engine> Spot<'a, S, E> {
         ensures rest { drop (filled + count) table.new ≡ drop (filled + count) table.old }
     {
         if count > 0 {
+            // a form that this project fixes (docs/DECISIONS.md)
             self.write(&mut table[filled as usize..]);
         }
     }
 }
 
-// Writes a match that was found, and says which entry is free next.
+// Writes a match that was found, and says which entry is free next. A function of its own, since a proof loses
+// what stands in the table where an `if` ends; an `Option` would be made at both calls to be taken apart here.
 fn put(room: &mut [Match], free: usize, found: bool, entry: Match) -> usize
     requires { IsTrue found → free < length room.old }
     ensures { MatchBool found ((result ≡ free + 1) × (room.new ≡ set room.old free entry)) ((result ≡ free) × (room.new ≡ room.old)) }

@@ -23,6 +23,10 @@ module _ (jumps : List ℕ) (s : ℕ) where
   one_more : (n : ℕ) → NoneBelow n → bit s n ≡ false → NoneBelow (suc n)
   one_more n none e q l b = ⊎_elim (λ less. none q less b) (λ le. let is : q ≡ n = omega arith in both_ways (bit s n) e (ap (bit s) (sym is) ∙ b)) (cases_lt q n)
 
+  pub at_least_one : (n : ℕ) → 1 ≤ greatest_in jumps s n
+  at_least_one zero = omega arith
+  at_least_one (suc n) = let ih = at_least_one n in cond_both (bit s n) (more n) (greatest_in jumps s n) (λ x. 1 ≤ x) (λ _. omega arith) (λ _. ih)
+
   greatest_most : (n q : ℕ) → q < n → bit s q ≡ true → slice_index jumps q ≤ greatest_in jumps s n
   greatest_most zero q l b = absurd (omega arith)
   greatest_most (suc n) q l b =

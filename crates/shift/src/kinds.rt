@@ -40,7 +40,7 @@ impl<'a> Kinds<'a> {
         let next = tail.positions().follow(self.engine.arrows());
         let held = self.engine.held();
         for code in &self.codes {
-            let positions = next & held[*code as usize];
+            let positions = next & held[usize::from(*code)];
             if !positions.is_empty() {
                 list.push(tail.preceded_by(heap, *code, positions)?)?;
             }

@@ -54,7 +54,7 @@ impl Tail {
         (!rest.is_empty()).then_some(rest.len())
     }
 
-    // It has a length, and a proper head of it is the one given.
+    // It has the length, and the word given is a proper head of it.
     pub(crate) fn goes_on(&self, head: &[u8], depth: usize) -> bool
         ensures { result ≡ (length self.now.codes == depth && is_some (excess_of head.now self.now.codes)) }
     {

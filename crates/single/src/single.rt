@@ -99,7 +99,7 @@ impl Engine for SingleStep {
     }
 
     fn advance(&self, state: Positions, code: u8) -> Option<Positions> {
-        let next = state.follow(&self.arrows) & self.held[code as usize];
+        let next = state.follow(&self.arrows) & self.held[usize::from(code)];
         if next.is_empty() { None } else { Some(next) }
     }
 

@@ -41,7 +41,7 @@ between Fields b d = cond (b == 44) (Some (state Member d)) None
 abbrev pub further : Mode → ℕ → ℕ → Option State
 further m b d = cond (b == closing m) (Some (state Atom d)) (between m b d)
 
--- outside sets: what a byte does that is no unit, after an atom, a mark or neither
+-- behind `)`: one group fewer is open, if one is
 abbrev pub closed : ℕ → Option State
 closed zero = None
 closed (suc d) = Some (state Atom d)
@@ -61,6 +61,7 @@ abbrev pub marks : Form → ℕ → Option State
 marks Atom d = Some (state Marked d)
 marks f d = None
 
+-- outside sets: what a byte does that is no unit, after an atom, a mark or neither
 abbrev pub sign : Mode → ℕ → Option State → Option State → Option State → ℕ → Option State
 sign m b close bar mark d =
     cond (b == 40) (Some (state Need (suc d)))

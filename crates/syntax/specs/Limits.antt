@@ -3,7 +3,6 @@ use Rattle.std.specs.Prelude.{◌≡◌, ℕ, ◌+◌, ◌-◌, List, [], ◌∷
 use Rattle.std.specs.List.{flat_map}
 use Rattle.refusal.specs.declared.Fault.{Fault}
 use Rattle.syntax.specs.declared.mode.Mode.{Mode}
-use Rattle.syntax.specs.declared.limits.TheConstants.{MOST_POSITIONS}
 use Rattle.syntax.specs.declared.limits.Findings.{Findings}
 use Rattle.syntax.specs.Grammar.{Part, group_at, simple_at, Tree, expression}
 use Rattle.syntax.specs.Refusals.{first, too_deep, reversed, empty_set, position, breach_of, breach}
@@ -14,7 +13,7 @@ pub record Noted (m : Mode) (f : Findings) (parts : List (Part m)) : Type 0 wher
   pub deep : f.deep ≡ first (flat_map too_deep parts)
   pub reversed : f.reversed ≡ first (flat_map reversed parts)
   pub empty : f.empty ≡ first (flat_map empty_set parts)
-  pub over : f.over ≡ first (drop MOST_POSITIONS (flat_map position parts))
+  pub over : f.over ≡ first (drop 63 (flat_map position parts))
   pub positions : f.positions ≡ length (flat_map position parts)
 
 -- the part that a lexeme at the depth d and the place p begins, and the depth behind it

@@ -4,7 +4,6 @@ use Rattle.std.specs.Prelude.{◌≡◌, ℕ, ◌<◌, ◌≤◌, true, List, le
 use Rattle.refusal.specs.declared.Fault.{Fault}
 use Rattle.refusal.specs.declared.Fault.TheVariants.{ExpressionTooLong, NotInGrammar, Memory}
 use Rattle.syntax.specs.declared.mode.Mode.{Mode}
-use Rattle.syntax.specs.declared.limits.TheConstants.{LONGEST}
 use Rattle.syntax.specs.declared.tree.Node.{Node}
 use Rattle.syntax.specs.Grammar.{Tree, expression, written, meaning, spelled}
 use Rattle.syntax.specs.Refusals.{OutsideGrammar, breach}
@@ -12,7 +11,7 @@ use Rattle.syntax.specs.Tree.{language, spelling, exact}
 
 -- the bytes are not too long, and t is the tree that is written so
 pub record Written (m : Mode) (bytes : List ℕ) (t : Tree m expression) : Type 0 where
-  pub short : length bytes ≤ LONGEST
+  pub short : length bytes ≤ 1024
   pub as_bytes : written t ≡ bytes
 
 -- the tree n is that of an expression that keeps to the limits
@@ -26,8 +25,8 @@ pub record Accepted (m : Mode) (bytes : List ℕ) (n : Node) : Type 0 where
 
 -- f is due; want of memory only where nothing else is wrong
 pub data Refusal (m : Mode) (bytes : List ℕ) (f : Fault) : Type 0 where
-  too_long : f ≡ ExpressionTooLong → LONGEST < length bytes → Refusal m bytes f
-  not_in_grammar : (p : ℕ) → f ≡ NotInGrammar p → length bytes ≤ LONGEST → OutsideGrammar m bytes p → Refusal m bytes f
+  too_long : f ≡ ExpressionTooLong → 1024 < length bytes → Refusal m bytes f
+  not_in_grammar : (p : ℕ) → f ≡ NotInGrammar p → length bytes ≤ 1024 → OutsideGrammar m bytes p → Refusal m bytes f
   beyond_limit : (t : Tree m expression) → Written m bytes t → breach t ≡ Some f → Refusal m bytes f
   no_memory : f ≡ Memory → (t : Tree m expression) → Written m bytes t → breach t ≡ None → Refusal m bytes f
 

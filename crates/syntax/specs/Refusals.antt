@@ -5,7 +5,6 @@ use Rattle.regular.specs.Positions.{some_below}
 use Rattle.refusal.specs.declared.Fault.{Fault}
 use Rattle.refusal.specs.declared.Fault.TheVariants.{TooDeep, ReversedRange, EmptySet, TooManyPositions}
 use Rattle.syntax.specs.declared.mode.Mode.{Mode}
-use Rattle.syntax.specs.declared.limits.TheConstants.{DEEPEST, MOST_POSITIONS}
 use Rattle.syntax.specs.Grammar.{Member, single, range, Members, last, more, Simple, dot, unit, set, Tree, expression, Part, group_at, simple_at, code, top, separator, caret, written_member, written, holds, parts}
 
 -- a head that some expression begins with
@@ -27,7 +26,7 @@ first (p ∷ ps) = Some p
 -- the spots of each kind of refusal: groups that are too deep, ranges with the second end below the first,
 -- simple atoms that hold nothing, and all simple atoms
 abbrev pub too_deep : {m : Mode} → Part m → List ℕ
-too_deep (group_at d p) = cond (nat_lt DEEPEST d) (p ∷ []) []
+too_deep (group_at d p) = cond (nat_lt 16 d) (p ∷ []) []
 too_deep (simple_at s p) = []
 
 abbrev pub reversed_member : (m : Mode) → Member m → ℕ → List ℕ
@@ -69,4 +68,4 @@ breach_of deep backwards empty over = at_spot TooDeep deep (at_spot ReversedRang
 
 -- the first limit that an expression breaks, and where: the position behind the most that there may be is one too many
 abbrev pub breach : {m : Mode} → Tree m expression → Option Fault
-breach t = breach_of (first (spots too_deep t)) (first (spots reversed t)) (first (spots empty_set t)) (first (drop MOST_POSITIONS (spots position t)))
+breach t = breach_of (first (spots too_deep t)) (first (spots reversed t)) (first (spots empty_set t)) (first (drop 63 (spots position t)))

@@ -8,7 +8,7 @@ use crate::limits::LONGEST;
 use crate::mode::Mode;
 use refusal::Fault;
 
-// What was read last: nothing that an item needs, an atom, an atom and its mark, or part of an atom.
+// What was read last: nothing yet, where an item is needed, an atom, an atom and its mark, or part of an atom.
 #[derive(Clone, Copy, Debug, PartialEq, Eq)]
 pub enum Form {
     Need,
@@ -75,6 +75,7 @@ fn value_ends(mode: Mode, b: u8) -> bool
 
 // How far an expression was read: what was read last, and how many groups are open.
 // That these are few is no invariant of the type, since each byte may open one more: the loop keeps it.
+// The mode is no field: it stays while the state goes on, and the automaton is defined over both.
 #[derive(Clone, Copy, Debug, PartialEq, Eq)]
 pub struct State {
     form: Form,

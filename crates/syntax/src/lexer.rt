@@ -140,7 +140,7 @@ impl<'a> Lexer<'a> {
         Some(Member { first, last, place })
     }
 
-    // The next mark.
+    // The next mark. Beside `sign`, for one function of both would have to be told what its test answers.
     pub(crate) fn mark(&mut self) -> Option<Mark>
         ensures read { Took result (front mark_of_byte self.old.rest.now) self.old self.new }
         ensures same { IfNone result (self.new ≡ self.old) }

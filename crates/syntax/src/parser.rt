@@ -14,6 +14,8 @@ use crate::tree::{Atom, Node, chosen, grouped, joined, marked};
 use refusal::Fault;
 use std::alloc::Global;
 
+// The depth that is left falls as an argument (a form that this project fixes, docs/DECISIONS.md), and the heap goes with it.
+
 // An atom; `left` is how many groups may still be opened in one another.
 #[cycle(read_atom_read_branch_read_expression_read_item)]
 fn read_atom(heap: Global, lexer: &mut Lexer<'_>, left: usize) -> Result<Node, Fault>
@@ -72,6 +74,7 @@ fn read_expression(heap: Global, lexer: &mut Lexer<'_>, left: usize) -> Result<N
     ensures got { (m : Mode) (t : Tree m expression) (w : List ℕ) → Before m (written t ++ w) lexer.old → Closes w → nesting t ≤ left → Got t w result lexer.new }
     ensures ahead { IfOk result (λ _. length lexer.new.rest.now < length lexer.old.rest.now) }
 {
+    // the loop of `read_branch`, over another part: each promises a tree of its own level
     let mut whole = read_branch(heap, lexer, left)?;
     while lexer.eats(b'|') {
         let branch = read_branch(heap, lexer, left)?;

@@ -21,6 +21,7 @@ fn bare_set(mode: Mode, negated: bool, members: Members<'_>) -> Option<u8>
     }
 }
 
+// The mode is no field of a token: it is the lexer's, and a token of its own would say it again.
 impl<'a> Token<'a> {
     // The place of a simple atom's first range that runs backwards.
     pub(crate) fn reversed(self, mode: Mode) -> Option<usize>

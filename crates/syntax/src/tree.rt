@@ -32,6 +32,7 @@ pub enum Node {
 }
 
 // One maker for each kind of node, since each promises another record; one that took the constructor could promise none.
+// Want of memory is a fault already here, so that the parser's branches have one type.
 
 pub(crate) fn grouped(heap: Global, a: Node) -> Result<Node, Fault>
     ensures { MatchResult result (λ e. Grouped a e) (λ f. f ≡ Memory) }

@@ -1,4 +1,4 @@
-// Whether a tree spells a word, and which. Two walks, so that no plain word is refused as such before memory is asked for.
+// Whether a tree spells a word, and which. Two walks, so that what is no plain word is refused as such, before memory is asked for.
 ghost use Rattle.std.specs.Prelude.{◌≡◌, ℕ, true, List, ◌++◌, is_some, Some, OnOk};
 ghost use Rattle.syntax.specs.Tree.{spelling};
 

@@ -14,7 +14,7 @@ use std::alloc::Global;
 
 const NONE_READ: usize = 0;
 
-// beyond the word's length, which no count of symbols read is
+// the jump beyond the word's length, which no count of symbols read is
 const ANY_JUMP: u32 = 1;
 
 impl Word {

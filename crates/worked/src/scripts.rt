@@ -4,6 +4,7 @@ use lines::split_once;
 // The first script, and what stands behind it.
 pub(crate) fn next_script(bytes: &[u8]) -> Option<(&[u8], &[u8])> {
     let (line, rest) = split_once(bytes.strip_prefix(b"input ")?, b'\n')?;
+    // any byte counts as a digit, as it always did here, so `lines::decimal` does not serve
     let mut length: usize = 0;
     for &digit in line {
         length = length

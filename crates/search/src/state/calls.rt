@@ -19,6 +19,8 @@ fn pick<'e, E>(engines: &'e [E], spare: &'e E, number: usize) -> &'e E
     engines.get(number).unwrap_or(spare)
 }
 
+// That a call leaves the text stands in each contract: they are public, and stay as they read. A row of engines goes with
+// a spare one, since `perform` takes both (docs/DECISIONS.md, "Search").
 impl<'t, S: Symbol> Search<'t, S> {
     /// The search's five numbers, all 0 when it is opened.
     pub fn numbers(&self) -> Numbers
@@ -30,7 +32,7 @@ impl<'t, S: Symbol> Search<'t, S> {
 
     /// Begins a search of the text, which has at most 65,535 symbols: `Search::open(b"xabbcabc")?`.
     pub fn open(text: &'t [S]) -> Result<Search<'t, S>, Fault>
-        ensures { MatchResult result (λ s. (length text.now ≤ LONGEST_TEXT) × (s.text ≡ text.entry) × (s.numbers ≡ fresh 0)) (λ f. (LONGEST_TEXT < length text.now) × (f ≡ TextTooLong)) }
+        ensures { MatchResult result (λ s. (length text.now ≤ 65535) × (s.text ≡ text.entry) × (s.numbers ≡ fresh 0)) (λ f. (65535 < length text.now) × (f ≡ TextTooLong)) }
     {
         if text.len() > LONGEST_TEXT {
             return Err(Fault::TextTooLong);

@@ -1,6 +1,6 @@
 use Rattle.std.proofs.Common.{◌≡◌, take, string_bytes}
 use Rattle.std.specs.List.{flat_map}
-use Rattle.calling.specs.Told.{match_line}
+use Rattle.search.specs.Messages.{match_line}
 use Rattle.calling.proofs.telling.matches_text.Given as goal
 
 abbrev pub invariant-loop-start : goal.invariant-loop-start

@@ -3,8 +3,7 @@ use Rattle.std.proofs.lemmas.List.{take_min}
 use Rattle.std.proofs.lemmas.Result.{IfOk-weaker}
 use Rattle.std.proofs.Math.Nat.{min_comm}
 use Rattle.std.specs.List.{flat_map}
-use Rattle.search.specs.Messages.{numbers_text}
-use Rattle.calling.specs.Told.{match_line}
+use Rattle.search.specs.Messages.{match_line, numbers_text}
 use Rattle.calling.proofs.telling.outcome_text.Goals as goal
 
 pub returns : goal.returns

@@ -2,7 +2,7 @@ use Rattle.std.proofs.Common.{[], get_or, take, sym, refl, ap, ◌∙◌}
 use Rattle.std.proofs.Output.{has_written_append, has_written_of_eq}
 use Rattle.std.proofs.lemmas.List.{take_more, flat_map_more}
 use Rattle.std.specs.List.{flat_map}
-use Rattle.finder.specs.Messages.{match_line}
+use Rattle.search.specs.Messages.{match_line}
 use Rattle.finder.proofs.ListingDisplay.fmt.Goals as goal
 
 pub loop-start-preserved : goal.loop-start-preserved

@@ -1,7 +1,7 @@
 use Rattle.std.proofs.Common.{take}
 use Rattle.std.specs.Fmt.{HasWritten, IsPlainFormatter}
 use Rattle.std.specs.List.{flat_map}
-use Rattle.finder.specs.Messages.{match_line}
+use Rattle.search.specs.Messages.{match_line}
 use Rattle.finder.proofs.ListingDisplay.fmt.Given as goal
 
 abbrev pub invariant-loop-start : goal.invariant-loop-start

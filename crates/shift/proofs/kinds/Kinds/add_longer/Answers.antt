@@ -14,8 +14,8 @@ use Rattle.shift.proofs.Longer.{code_yes, code_no}
 use Rattle.shift.proofs.kinds.Kinds.add_longer.Goals as goal
 use Rattle.shift.proofs.kinds.Kinds.add_longer.Goals.{Joined-not-is_empty, then-not-is_empty+in_ok-preceded_by+in_ok-push, else-not-is_empty}
 
-pub bounds-held-code : goal.bounds-held-code
-bounds-held-code c = omega (arith, ap length c.held-held.ensures, length_held (language c.args.self.now.engine.now.expression.tree), c.type_inv.code-items c.loop-code.code-index)
+pub bounds-held-from : goal.bounds-held-from
+bounds-held-from c = omega (arith, c.from.ensures, ap length c.held-held.ensures, length_held (language c.args.self.now.engine.now.expression.tree), c.type_inv.code-items c.loop-code.code-index)
 
 -- the positions that the code and the tail lead to
 entered_is : (c : Joined-not-is_empty) → c.bitand-positions.result ≡ as_set (reached (language c.args.self.now.engine.now.expression.tree) (get_or c.deref-code-items.result.now c.loop-code.code-index 0 ∷ c.args.tail.now.codes))
@@ -26,7 +26,7 @@ entered_is c =
     entered (language e.tree) e.few c.args.tail.now.codes code c.positions.result c.bitand-positions.result c.arrows.result.now c.held-held.result.now
     (omega (arith, small)) (c.positions.ensures ∙ ap (λ t. t.positions) c.requires) c.arrows.ensures c.held-held.ensures
     (c.bitand-positions.ensures
-    ∙ ap₂ bit_and c.follow-next.ensures (c.index-held-code.is ∙ get_or_default_zero c.held-held.result.now code c.index-held-code.result (omega (arith, ap length c.held-held.ensures, length_held (language e.tree), small))))
+    ∙ ap₂ bit_and c.follow-next.ensures (c.index-held-from.is ∙ ap (λ k. get_or c.held-held.result.now k c.index-held-from.result) c.from.ensures ∙ get_or_default_zero c.held-held.result.now code c.index-held-from.result (omega (arith, ap length c.held-held.ensures, length_held (language e.tree), small))))
 
 pub loop-code-preserved : goal.loop-code-preserved
 loop-code-preserved c =

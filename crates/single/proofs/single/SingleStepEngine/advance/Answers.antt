@@ -10,10 +10,10 @@ pub returns-then-is_empty : goal.returns-then-is_empty
 returns-then-is_empty c v tail is =
     let e = c.args.self.now in
     let x = e.expression in
-    lost (language x.tree) x.few v (full_inhabited x.tree x.full) c.args.code c.args.state _ _ _ (omega (arith, c.ranges.code)) is (c.deref.ensures.value ∙ e.entering) e.holding c.index-self-code.result (cc) (c.if-is_empty.ensures.0 refl)
+    lost (language x.tree) x.few v (full_inhabited x.tree x.full) c.args.code c.args.state _ _ _ (omega (arith, c.ranges.code)) is (c.deref.ensures.value ∙ e.entering) e.holding c.index-self-from.result (cc) (c.if-is_empty.ensures.0 refl)
 
 pub returns-else-is_empty : goal.returns-else-is_empty
 returns-else-is_empty c v tail is =
     let e = c.args.self.now in
     let x = e.expression in
-    found (language x.tree) x.few v (full_inhabited x.tree x.full) c.args.code c.args.state _ _ _ (omega (arith, c.ranges.code)) is (c.deref.ensures.value ∙ e.entering) e.holding c.index-self-code.result (cc) (λ z. false≢true (c.if-is_empty.ensures.1 z))
+    found (language x.tree) x.few v (full_inhabited x.tree x.full) c.args.code c.args.state _ _ _ (omega (arith, c.ranges.code)) is (c.deref.ensures.value ∙ e.entering) e.holding c.index-self-from.result (cc) (λ z. false≢true (c.if-is_empty.ensures.1 z))
