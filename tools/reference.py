@@ -20,7 +20,7 @@ class Refused(Exception):
 
 # ---------------------------------------------------------------- expressions
 class Parser:
-    """Recursive descent; `fail` is the length of the longest head that begins some expression."""
+    """Recursive descent; `fail` is how many bytes of the front an expression can have there."""
 
     def __init__(self, text, mode):
         self.t, self.mode, self.i = text, mode, 0
