@@ -1,47 +1,98 @@
 // What the calls of a script come to, as it is printed.
-ghost use Rattle.std.specs.Prelude.{◌≡◌, IfOk, string_bytes};
+ghost use Rattle.std.specs.Prelude.{◌≡◌, IfOk, Some, string_bytes, take};
 ghost use Rattle.std.specs.List.{flat_map};
 ghost use Rattle.search.specs.Messages.{match_line};
-ghost use Rattle.calling.specs.Told.{answer_line, outcome_text, Tells};
+ghost use Rattle.calling.specs.Told.{answer_line, Tells};
+ghost use Rattle.calling.specs.Messages.{telling_text};
 
 use making::make;
+use refusal::Fault;
 use script::Script;
-use search::{Answer, Match, Numbers};
+use search::{Answer, Match, Numbers, Outcome};
 use std::alloc::{AllocError, Global};
+use std::fmt;
 
-// two loops: one over any item would have to be told what each call of a printer writes
-fn answers_text(heap: Global, answers: &[Answer]) -> Result<String, AllocError>
-    ensures { IfOk result (λ text. string_bytes text ≡ flat_map answer_line answers.now) }
-{
-    let mut text = String::new(heap);
-    for answer in answers {
-        text.push_str(&format!(in heap; "{answer}\n")?)?;
-    }
-    Ok(text)
+// A line for each answer.
+// two types: one over any item would have to be told what each item is printed as
+#[derive(Drop)]
+struct AnswerLines<'a> {
+    answers: &'a [Answer],
 }
 
-fn matches_text(heap: Global, matches: &[Match]) -> Result<String, AllocError>
-    ensures { IfOk result (λ text. string_bytes text ≡ flat_map match_line matches.now) }
-{
-    let mut text = String::new(heap);
-    for &(start, end) in matches {
-        text.push_str(&format!(in heap; "{start} {end}\n")?)?;
+impl fmt::Display for AnswerLines<'_> {
+    ghost output = { λ l. Some (flat_map answer_line l.answers.now) };
+
+    fn fmt<W: fmt::Write>(&self, f: &mut fmt::Formatter<W>) -> fmt::Result {
+        for answer in self.answers {
+            writeln!(f, "{answer}")?;
+        }
+        Ok(())
     }
-    Ok(text)
 }
 
-fn outcome_text(
-    heap: Global,
-    numbers: Numbers,
-    answers: &[Answer],
-    table: &[Match],
-) -> Result<String, AllocError>
-    ensures { IfOk result (λ text. string_bytes text ≡ outcome_text numbers answers.now table.now) }
+// A line for each match.
+#[derive(Drop)]
+struct MatchLines<'a> {
+    matches: &'a [Match],
+}
+
+impl fmt::Display for MatchLines<'_> {
+    ghost output = { λ l. Some (flat_map match_line l.matches.now) };
+
+    fn fmt<W: fmt::Write>(&self, f: &mut fmt::Formatter<W>) -> fmt::Result {
+        for &(start, end) in self.matches {
+            writeln!(f, "{start} {end}")?;
+        }
+        Ok(())
+    }
+}
+
+fn filled_part(numbers: Numbers, table: &[Match]) -> &[Match]
+    ensures { result.now ≡ take numbers.filled table.now }
 {
-    let filled = table.len().min(numbers.filled as usize);
-    let answers = answers_text(heap, answers)?;
-    let matches = matches_text(heap, &table[..filled])?;
-    format!(in heap; "{answers}{numbers}\n{matches}")
+    &table[..table.len().min(numbers.filled as usize)]
+}
+
+// What the calls of a script come to, with the table as they leave it. It is printed piece by piece, so that a long text needs no memory.
+#[derive(Drop)]
+pub(crate) struct Telling {
+    outcome: Result<Outcome, Fault>,
+    table: Vec<Match>,
+}
+
+impl fmt::Display for Telling {
+    ghost output = { λ t. Some (telling_text t) };
+
+    fn fmt<W: fmt::Write>(&self, f: &mut fmt::Formatter<W>) -> fmt::Result {
+        match &self.outcome {
+            Ok(outcome) => {
+                let numbers = outcome.numbers;
+                let answers = AnswerLines {
+                    answers: &outcome.answers,
+                };
+                let matches = MatchLines {
+                    matches: filled_part(numbers, &self.table),
+                };
+                write!(f, "{answers}{numbers}\n{matches}")
+            }
+            Err(fault) => writeln!(f, "{fault}"),
+        }
+    }
+}
+
+// Makes the calls of a script.
+pub(crate) fn tell(heap: Global, script: &Script<'_>) -> Result<Telling, AllocError>
+    ensures { IfOk result (λ telling. Tells script.now.expression.now script.now.size script.now.calls.items script.now.text.now (telling_text telling)) }
+{
+    let mut table = vec![in heap; (0, 0); script.size as usize]?;
+    let outcome = make(
+        heap,
+        script.expression,
+        script.text,
+        &script.calls,
+        &mut table,
+    );
+    Ok(Telling { outcome, table })
 }
 
 /// A line for each call's answer, one for the numbers at their end, and one for each match of the filled part of the table; or the one line of the refusal.
@@ -49,12 +100,8 @@ fn outcome_text(
 pub fn told(heap: Global, script: &Script<'_>) -> Result<String, AllocError>
     ensures { IfOk result (λ told. Tells script.now.expression.now script.now.size script.now.calls.items script.now.text.now (string_bytes told)) }
 {
-    let mut entries = vec![in heap; (0, 0); script.size as usize]?;
-    let table = entries.as_mut_slice();
-    match make(heap, script.expression, script.text, &script.calls, table) {
-        Ok(outcome) => outcome_text(heap, outcome.numbers, &outcome.answers, table),
-        Err(fault) => format!(in heap; "{fault}\n"),
-    }
+    let telling = tell(heap, script)?;
+    format!(in heap; "{telling}")
 }
 
 #[cfg(test)]
