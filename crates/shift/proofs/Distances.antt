@@ -1,5 +1,5 @@
 -- The distances as they are reckoned from a list. Assumes nothing.
-use Rattle.std.proofs.Common.{◌≡◌, ℕ, ◌+◌, ◌-◌, Bool, true, false, cond, not, ◌&&◌, ◌||◌, eqb, ltb, List, [], ◌∷◌, length, take, min, is_some, Some, None, Option, sym, refl, ap, ◌∙◌, ap₂, arith}
+use Rattle.std.proofs.Common.{◌≡◌, ℕ, ◌+◌, ◌-◌, ◌≤◌, Bool, true, false, cond, not, ◌&&◌, ◌||◌, eqb, ltb, List, [], ◌∷◌, length, take, min, is_some, Some, None, Option, sym, refl, ap, ◌∙◌, ap₂, arith}
 use lib.Pointwise.{pointwise}
 use Rattle.std.specs.Bool.{then_some}
 use Rattle.std.specs.List.{list_any, filter_map, cons_option, fold, reduce}
@@ -44,6 +44,11 @@ opens_any k v (t ∷ ts) = ap₂ ◌||◌ (ap (λ b. eqb (length t.codes) k && b
     go : (b : Bool) → is_some (then_some b (length t.codes - length v)) ≡ b
     go true = refl
     go false = refl
+
+-- a word as long as the longest of the tails, or longer, is a proper head of none of them
+pub opens_none : (k : ℕ) (v : List ℕ) → k ≤ length v → (ws : List (List ℕ)) → opens k ws v ≡ false
+opens_none k v l [] = refl
+opens_none k v l (w ∷ ws) = grind (arith, nat_tests, opens_none k v l ws)
 
 lesser_assoc : (a b c : Distance) → lesser a (lesser b c) ≡ lesser (lesser a b) c
 lesser_assoc infinite b c = refl

@@ -3,3 +3,4 @@ mod Longer
 mod Distances
 mod Final
 pub mod Greatest
+mod Seconds

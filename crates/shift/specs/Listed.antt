@@ -1,7 +1,7 @@
 -- The list of all tails up to a length. Assumes nothing.
-use Rattle.std.specs.Prelude.{◌≡◌, ℕ, ◌+◌, ◌<◌, ◌≤◌, List, map, length, drop, vec_items}
+use Rattle.std.specs.Prelude.{◌≡◌, ℕ, ◌+◌, ◌<◌, ◌≤◌, List, map, length, take, drop, vec_items}
 use Rattle.regular.specs.Language.{Regex, shortest}
-use Rattle.distance.specs.Found.{tails}
+use Rattle.distance.specs.Found.{second_of, tails}
 use Rattle.shift.specs.Led.{all_codes, led, listed, words}
 use Rattle.shift.specs.declared.tails.Tails.{Tails}
 
@@ -11,6 +11,10 @@ all_words t = words (vec_items t.list)
 
 abbrev pub full_words : Tails → List (List ℕ)
 full_words t = words (drop t.full (vec_items t.list))
+
+-- the second distances of the first tails
+abbrev pub Seconds : Tails → List ℕ → Type 0
+Seconds t ss = ss ≡ map (second_of t.depth (full_words t)) (take (length ss) (all_words t))
 
 -- every tail up to the depth, which is the greatest length up to the shortest word's for which they are at most 256
 pub record ListedFor (r : Regex) (t : Tails) : Type 0 where

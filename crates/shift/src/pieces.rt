@@ -43,12 +43,15 @@ impl Pieces {
         ensures { IfOk result (WeighedFor arrows.now tails.now) }
     {
         let mut list = Vec::new(heap);
+        let mut seconds = Vec::new(heap);
         for tail in &tails.list {
+            let second = tails.second(&seconds, tail.codes());
+            seconds.push(second)?;
             list.push(Piece {
                 span: tail.codes().len(),
                 positions: tail.positions(),
                 onward: tail.positions().closure(arrows),
-                nearest: tails.nearest(tail.codes()),
+                nearest: tails.nearest(tail.codes(), second),
             })?;
         }
         Ok(Pieces {
