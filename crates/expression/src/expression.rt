@@ -7,7 +7,7 @@ ghost use Rattle.regular.specs.Sets.{as_set};
 ghost use Rattle.syntax.specs.Tree.{exact, full, language};
 ghost use Rattle.expression.specs.Outlines.{Outlines};
 
-use crate::outline::{Outline, outline_of};
+use crate::outline::Outline;
 use positions::Positions;
 use syntax::Node;
 
@@ -61,6 +61,18 @@ impl Expression {
     }
 }
 
+// How many positions a tree has.
+fn size(node: &Node) -> u32
+    requires { size (language node.now) ≤ 63 }
+    ensures { result ≡ size (language node.now) }
+{
+    match node {
+        Node::Atom(_) => 1,
+        Node::Join(a, b) | Node::Either(a, b) => size(a) + size(b),
+        Node::Group(a) | Node::Marked(_, a) => size(a),
+    }
+}
+
 // Whether a position holds a code; `before` positions stand before the tree.
 fn holds(node: &Node, before: u32, position: u32, code: u8) -> bool
     requires { before + size (language node.now) ≤ 63 }
@@ -69,7 +81,7 @@ fn holds(node: &Node, before: u32, position: u32, code: u8) -> bool
     match node {
         Node::Atom(atom) => position == before + 1 && atom.codes[usize::from(code)],
         Node::Join(a, b) | Node::Either(a, b) => {
-            holds(a, before, position, code) || holds(b, outline_of(a, before).end, position, code)
+            holds(a, before, position, code) || holds(b, before + size(a), position, code)
         }
         Node::Group(a) | Node::Marked(_, a) => holds(a, before, position, code),
     }
