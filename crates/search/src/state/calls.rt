@@ -43,11 +43,11 @@ impl<'t, S: Symbol> Search<'t, S> {
         })
     }
 
-    // Every place is looked at.
-    fn is_finished(&self) -> bool
-        ensures { result ≡ finished (map S.code self.now.text.now) self.now.numbers.next }
+    // No match can end at the place: it lies behind the text's end.
+    fn is_behind(&self, place: u32) -> bool
+        ensures { result ≡ finished (map S.code self.now.text.now) place }
     {
-        self.numbers.next as usize > self.text.len()
+        place as usize > self.text.len()
     }
 
     /// Lists the matches that end at the next place, and goes on to the place that the engine jumps to.
@@ -63,7 +63,7 @@ impl<'t, S: Symbol> Search<'t, S> {
             walks,
             reads,
         } = self.numbers;
-        if self.is_finished() {
+        if self.is_behind(place) {
             return Err(Fault::Finished {
                 place: place as usize,
             });
@@ -101,7 +101,7 @@ impl<'t, S: Symbol> Search<'t, S> {
         let mut done = 0;
         // a form that this project fixes (docs/DECISIONS.md)
         let stop = loop {
-            if self.is_finished() {
+            if self.is_behind(self.numbers.next) {
                 break Stop::Finished;
             }
             if done == budget {
