@@ -25,10 +25,10 @@ const STEP: u32 = 1;
 /// It owns its expression, and for each position the ones that may stand before it, for each code the ones that hold it, and the final ones.
 #[derive(Drop)]
 pub struct SingleStep {
-    expression: Expression,
-    arrows: Vec<Positions>,
-    held: [Positions; 256],
-    finals: Positions,
+    pub expression: Expression,
+    pub arrows: Vec<Positions>,
+    pub held: [Positions; 256],
+    pub finals: Positions,
     ghost entering: { arrows.items ≡ arrows_of (language expression.tree) },
     ghost holding: { held ≡ held_of (language expression.tree) },
     ghost ending: { finals ≡ as_set (final (language expression.tree)) },

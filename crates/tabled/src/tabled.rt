@@ -8,7 +8,7 @@ use single::SingleStep;
 /// For `ab+c` it jumps 3 from wherever a `c` was read, and 1 otherwise.
 #[derive(Drop)]
 pub struct Tabled {
-    pub(crate) single: SingleStep,
-    pub(crate) jumps: Vec<u32>,
+    pub single: SingleStep,
+    pub jumps: Vec<u32>,
     ghost exact: { ∥ PositionJumps (language single.expression.tree) jumps.items ∥₁ },
 }

@@ -34,6 +34,13 @@ impl Letters {
         Ok(Letters { list })
     }
 
+    /// The letters as they are read, `b"aba"` for `aba`.
+    pub fn as_slice(&self) -> &[u8]
+        ensures { result.now ≡ self.now }
+    {
+        &self.list
+    }
+
     pub(crate) fn count(&self) -> usize
         ensures { result ≡ length self.now }
     {

@@ -7,4 +7,5 @@ mod spelling;
 mod steps;
 mod word;
 
+pub use letters::Letters;
 pub use word::Word;

@@ -1,4 +1,4 @@
-ghost use Rattle.std.specs.Prelude.{length, slice_index};
+ghost use Rattle.std.specs.Prelude.{◌≡◌, if◌then◌else◌, length, nat_lt, slice_index};
 ghost use Rattle.syntax.specs.Tree.{language};
 ghost use Rattle.word.specs.Exact.{MadeFor};
 ghost use Rattle.syntax.proofs.Filled.{full_inhabited};
@@ -14,8 +14,15 @@ use std::alloc::Global;
 
 const NONE_READ: usize = 0;
 
-// the jump beyond the word's length, which no count of symbols read is
+// the jump beyond the word's length, where any number from 1 on would do
 const ANY_JUMP: u32 = 1;
+
+// The jump at a count; no word gives a count beyond the word's length.
+fn entry(jumps: &[u32], count: usize) -> u32
+    ensures { result ≡ (if nat_lt count (length jumps.now) then slice_index jumps.now count else 1) }
+{
+    jumps.get(count).copied().unwrap_or(ANY_JUMP)
+}
 
 impl Word {
     /// Builds the engine of a plain word: `Word::new(heap, read(heap, Mode::Bytes, b"abc")?)`.
@@ -63,6 +70,6 @@ impl Engine for Word {
     }
 
     fn jump(&self, state: usize) -> u32 {
-        self.jumps.get(state).copied().unwrap_or(ANY_JUMP)
+        entry(&self.jumps, state)
     }
 }

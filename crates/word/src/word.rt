@@ -9,9 +9,9 @@ use expression::Expression;
 /// It owns the word's letters, and for each count how far a search may go on: 1, 2, 2 and 2 for `aba`.
 #[derive(Drop)]
 pub struct Word {
-    pub(crate) expression: Expression,
-    pub(crate) letters: Letters,
-    pub(crate) jumps: Vec<u32>,
+    pub expression: Expression,
+    pub letters: Letters,
+    pub jumps: Vec<u32>,
     ghost spells: { spelling expression.tree ≡ Some letters },
     ghost count: { length jumps.items ≡ length letters + 1 },
     ghost least: { (j : ℕ) → j < length jumps.items → LeastMove letters j (slice_index jumps.items j) },
