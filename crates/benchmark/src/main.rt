@@ -5,10 +5,11 @@
 
 mod texts;
 
+use anyhow::Context;
 use engine::Engine;
 use expression::{Expression, Mode, read};
-use finder::list_all;
-use refusal::{Fault, LONGEST_TEXT};
+use finder::{Listing, list_all};
+use refusal::LONGEST_TEXT;
 use single::SingleStep;
 use std::alloc::Global;
 use std::env;
@@ -36,8 +37,18 @@ const EXPRESSIONS: [&str; 5] = [
 // As many entries as matches can end at one place of the longest text.
 const ROOM: usize = LONGEST_TEXT + 1;
 
-fn accepted(heap: Global, expression: &str) -> Result<Expression, Fault> {
+const NO_MEMORY: &str = "no memory for the engine";
+
+fn accepted(heap: Global, expression: &str) -> anyhow::Result<Expression> {
     read(heap, Mode::Bytes, expression.as_bytes())
+        .ok()
+        .context("the expression is refused")
+}
+
+fn list<E: Engine>(heap: Global, engine: &E, text: &[u8]) -> anyhow::Result<Listing> {
+    list_all(heap, text, engine, ROOM)
+        .ok()
+        .context("the text is refused")
 }
 
 fn time<E: Engine>(
@@ -46,10 +57,10 @@ fn time<E: Engine>(
     text: &[u8],
     rounds: u32,
 ) -> anyhow::Result<Timing> {
-    let first = list_all(rt.alloc(), text, engine, ROOM)?;
+    let first = list(rt.alloc(), engine, text)?;
     let start = Instant::now(rt)?;
     for _ in 0..rounds {
-        let _again = list_all(rt.alloc(), text, engine, ROOM)?;
+        let _again = list(rt.alloc(), engine, text)?;
     }
     let micros = u64::try_from(start.elapsed(rt)?.as_micros())?;
     Ok(Timing {
@@ -85,10 +96,14 @@ fn compare(rt: &HostRuntime, expression: &str, text: &[u8], rounds: u32) -> anyh
     let heap = rt.alloc();
     println!(rt; "{expression}")?;
     let symbols = (text.len() as u64).saturating_mul(u64::from(rounds));
-    let single = SingleStep::new(heap, accepted(heap, expression)?)?;
+    let single = SingleStep::new(heap, accepted(heap, expression)?)
+        .ok()
+        .context(NO_MEMORY)?;
     let base = time(rt, &single, text, rounds)?;
     print_row(rt, "single", symbols, base, base)?;
-    let tabled = Tabled::new(heap, accepted(heap, expression)?)?;
+    let tabled = Tabled::new(heap, accepted(heap, expression)?)
+        .ok()
+        .context(NO_MEMORY)?;
     let row = time(rt, &tabled, text, rounds)?;
     print_row(rt, "tabled", symbols, row, base)?;
     if let Ok(word) = Word::new(heap, accepted(heap, expression)?) {
