@@ -1,6 +1,5 @@
 // The job of the program: an expression and a text go in, every match comes out.
 ghost use Rattle.std.specs.Prelude.{◌≤◌, length};
-ghost use Rattle.listing.specs.declared.job.TheConstants.{LONGEST_INPUT};
 ghost use Rattle.listing.specs.Job.{Found};
 
 use expression::{Mode, read};
@@ -16,7 +15,7 @@ pub(crate) const LONGEST_INPUT: usize = 4_096;
 const ROOM: usize = LONGEST_INPUT + 1;
 
 pub(crate) fn list(heap: Global, expression: &[u8], text: &[u8]) -> Result<Listing, Fault>
-    requires { length text.now ≤ LONGEST_INPUT }
+    requires { length text.now ≤ 4096 }
     ensures { Found expression.now text.now result }
 {
     let engine = Tabled::new(heap, read(heap, Mode::Bytes, expression)?)?;
