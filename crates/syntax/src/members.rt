@@ -14,6 +14,7 @@ pub struct Member {
 impl Member {
     ghost use Rattle.syntax.specs.Members.{covers, runs_back};
 
+    #[inline]
     pub(crate) fn holds(self, code: u8) -> bool
         ensures { result ≡ covers self code }
     {
@@ -43,6 +44,7 @@ impl<'a> Iterator for Members<'a> {
 
     ghost remaining = { item_count listed };
 
+    #[inline]
     fn next(&mut self) -> Option<Member> {
         let mut lexer = self.lexer;
         let member = lexer.member()?;
