@@ -1,5 +1,5 @@
 -- What a set holds, from its members. Assumes nothing.
-use Rattle.std.proofs.Common.{◌≡◌, ℕ, ◌+◌, Bool, false, cond, List, [], ◌∷◌, ◌++◌, length, find, option_map, Some, None, Option, sym, refl, ap, ◌∙◌, subst, append_assoc, append-nil, arith}
+use Rattle.std.proofs.Common.{◌≡◌, ℕ, ◌+◌, Bool, true, false, cond, eqb, List, [], ◌∷◌, ◌++◌, length, find, option_map, Some, None, Option, sym, refl, ap, ◌∙◌, subst, append_assoc, append-nil, arith}
 use Rattle.std.specs.List.{list_any}
 use Rattle.std.proofs.Math.Bool.{or-false}
 use Rattle.std.proofs.lemmas.Bool.{ne_eqb}
@@ -7,10 +7,10 @@ use Rattle.std.proofs.lemmas.Bool.Decides.{nat_tests}
 use Rattle.syntax.specs.declared.mode.Mode.{Mode}
 use Rattle.syntax.specs.declared.mode.Mode.TheVariants.{Bytes, Fields}
 use Rattle.syntax.specs.declared.lexer.Lexer.{Lexer}
-use Rattle.syntax.specs.declared.lexer.Token.TheVariants.{Set}
+use Rattle.syntax.specs.declared.lexer.Token.TheVariants.{Dot, Unit, Set}
 use Rattle.syntax.specs.declared.members.Member as members
 use Rattle.syntax.specs.declared.members.Members as cursors
-use Rattle.syntax.specs.Grammar.{Simple, dot, unit, set, Member, Members, single, range, last, more, caret, separator, in_member, in_members, bare_set, written_value, written_member, written_members}
+use Rattle.syntax.specs.Grammar.{Simple, dot, unit, set, Member, Members, single, range, last, more, caret, code, held, separator, in_member, in_members, bare_set, written_value, written_member, written_members}
 use Rattle.syntax.specs.Refusals.{first, reversed_member, reversed_members}
 use Rattle.syntax.specs.Lexer.{Before, sole, value_of}
 use Rattle.syntax.specs.Members.{covers, runs_back, listed}
@@ -39,6 +39,17 @@ module _ (m : Mode) where
   pub reversed_found : (xs : Members m) (p : ℕ) → place_of (find runs_back (members_at m xs p)) ≡ first (reversed_members m xs p)
   reversed_found (last k) p = reversed_here k p [] [] refl ∙ ap first (append-nil _)
   reversed_found (more k xs) p = reversed_here k p (members_at m xs (p + length (written_member m k) + length (separator m))) _ (reversed_found xs _)
+
+  -- what a simple atom holds whose token is a dot, or a unit
+  pub of_dot : (s : Simple m) (p c : ℕ) → Stands m (atom s) p Dot → held m s c ≡ true
+  of_dot dot p c e = refl
+  of_dot (unit a x) p c e = absurd cc
+  of_dot (set n xs) p c (q, e, h, l) = absurd cc
+
+  pub of_unit : (s : Simple m) (p b c : ℕ) → Stands m (atom s) p (Unit b) → held m s c ≡ eqb b c
+  of_unit dot p b c e = absurd cc
+  of_unit (unit a x) p b c e = let same : code m x ≡ b = cc in ap (λ b. eqb b c) same
+  of_unit (set n xs) p b c (q, e, h, l) = absurd cc
 
   -- a simple atom whose token is a set
   pub of_set : (n : Bool) (r : cursors.Members) (s : Simple m) (p : ℕ) (G : Simple m → Type 0) → Stands m (atom s) p (Set n r) → ((xs : Members m) → Before m (written_members m xs) r.lexer → r.lexer.place ≡ p + 1 + length (caret n) → G (set n xs)) → G s

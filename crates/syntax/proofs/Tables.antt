@@ -1,12 +1,13 @@
 -- The table of the codes that a simple atom holds. Assumes nothing.
-use Rattle.std.proofs.Common.{◌≡◌, ℕ, zero, suc, ◌+◌, ◌-◌, ◌*◌, ◌<◌, ◌≤◌, Bool, true, false, cond, not, ◌&&◌, eqb, leb, ◌↔◌, ◌||◌, ◌⊎◌, inl, inr, List, length, get_or, IfSome, Some, None, Option, sym, refl, ap, ◌∙◌, subst, ⊎_elim, arith, rules}
+use Rattle.std.proofs.Common.{◌≡◌, ℕ, zero, suc, ◌+◌, ◌-◌, ◌*◌, ◌<◌, ◌≤◌, Bool, true, false, cond, not, ◌&&◌, eqb, leb, ◌↔◌, ◌⊎◌, inl, inr, List, length, get_or, IfSome, Some, None, Option, sym, refl, ap, ◌∙◌, subst, ⊎_elim, arith, rules}
 use Rattle.std.specs.Array.{IsFromFnResult, IsFromFnResultFrom}
 use denote.Param.Members.{Mut}
 use Rattle.std.specs.Fn.{Called}
-use Rattle.std.specs.List.{list_any, range_with_len}
-use Rattle.std.proofs.Math.Bool.{or-true}
-use Rattle.std.proofs.lemmas.List.{get_or_past}
-use Rattle.std.proofs.lemmas.Bool.{cases_lt, lt-leb, le-leb, lt-ltb, leb-true, and_parts, false≢true, or_cases}
+use Rattle.std.specs.Cmp.{booleans_Decides}
+use Rattle.std.specs.List.{IsAnyAnswer}
+use Rattle.std.proofs.lemmas.List.{get_or_default, get_or_past}
+use Rattle.std.proofs.lemmas.List.Elements.{contains_decides}
+use Rattle.std.proofs.lemmas.Bool.{cases_lt, lt-leb, le-leb, lt-ltb, leb-true, and_parts}
 use Rattle.std.proofs.lemmas.Bool.Decides.{Decides-below_or, nat_tests}
 use Rattle.regular.specs.Positions.{some_below}
 use Rattle.syntax.specs.declared.mode.Mode.{Mode}
@@ -62,24 +63,17 @@ some_below_is f n = Decides-below_or f (λ k. f k ≡ true) (λ m. some_below m 
 same_or_later : (a k : ℕ) → a ≤ k → (a ≡ k) ⊎ (a < k)
 same_or_later a k l = ⊎_elim inr (λ h. inl (omega arith)) (cases_lt a k)
 
--- a search of the numbers below n
-any_from : (f : ℕ → Bool) (a n : ℕ) → list_any f (range_with_len a n) ≡ true ↔ ((k : ℕ) × (a ≤ k) × (k < a + n) × (f k ≡ true))
-any_from f a zero = (λ e. absurd (false≢true e), λ (k, l, h, e). absurd (omega arith))
-any_from f a (suc n) = (
-  λ e. ⊎_elim (λ h. (a, omega arith, omega arith, h)) (λ h. let (k, l, m, i) = (any_from f (a + 1) n).0 h in (k, omega arith, omega arith, i)) (or_cases (f a) _ e),
-  λ (k, l, m, e). ⊎_elim (λ h. ap (λ t. t || list_any f (range_with_len (a + 1) n)) (ap f h ∙ e)) (λ h. ap (λ t. f a || t) ((any_from f (a + 1) n).1 (k, omega arith, omega arith, e)) ∙ or-true (f a)) (same_or_later a k l),
-)
-
 same_test : (a b : Bool) → (a ≡ true → b ≡ true) → (b ≡ true → a ≡ true) → a ≡ b
 same_test a b f g = search rules
 
--- no code above the largest is held
-pub any_held : (m : Mode) (s : Simple m) → list_any (holds m s) (range_with_len 0 256) ≡ some_below (top m + 1) (holds m s)
-any_held m s =
+-- a search of the table for a code that is held: no code above the largest is
+pub any_held : (m : Mode) (s : Simple m) (codes : List Bool) (r : Bool) → Table m s codes → length codes ≡ 256 → IsAnyAnswer (λ y b. mathlib.Core.Bool.beq y true ≡ b) codes r → r ≡ some_below (top m + 1) (holds m s)
+any_held m s codes r h l a =
+    let found = contains_decides _ booleans_Decides codes true r a in
     let some = some_below_is (holds m s) (top m + 1) in
-    same_test _ _
-    (λ e. let (k, _, _, h) = (any_from (holds m s) 0 256).0 e in let l = leb-true k (top m) (and_parts (leb k (top m)) (held m s k) h).0 in some.1 (k, omega arith, h))
-    (λ e. let (k, l, h) = some.0 e in (any_from (holds m s) 0 256).1 (k, omega arith, omega (arith, top_low m), h))
+    same_test r _
+    (λ e. let (k, _, is) = found.0 e in let b : holds m s k ≡ true = sym (h k) ∙ is false in let t = leb-true k (top m) (and_parts (leb k (top m)) (held m s k) b).0 in some.1 (k, omega arith, b))
+    (λ e. let (k, t, b) = some.0 e in let in_table : k < length codes = omega (arith, top_low m) in found.1 (k, in_table, λ d. get_or_default codes k d false in_table ∙ h k ∙ b))
 
 -- the table that is made by a call at each code
 module _ {F : Type 0} {g : Mut F (ℕ × Unit {0}) Bool} {f : F} (m : Mode) (s : Simple m) (ys : List Bool) where

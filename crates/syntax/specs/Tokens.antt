@@ -61,5 +61,9 @@ Stands m (atom (set n xs)) p t = IsSet m n xs (p + 1 + length (caret n)) t
 abbrev pub Atomic : (m : Mode) → Simple m → Token → Type 0
 Atomic m s t = (p : ℕ) × Stands m (atom s) p t
 
+-- a code is held if it is named, or where all others are held instead if it is not
+abbrev pub turned : Bool → Bool → Bool
+turned others named = cond others (not named) named
+
 abbrev pub Table : (m : Mode) → Simple m → List Bool → Type 0
 Table m s table = (c : ℕ) → slice_index_or table c false ≡ holds m s c

@@ -58,7 +58,6 @@ impl<'a> Lexer<'a> {
     }
 
     // The next byte.
-    #[inline]
     fn byte(&mut self) -> Option<u8>
         ensures { MatchOption result (self.old.rest.now ≡ []) (λ b. Ate (b ∷ []) self.old self.new) }
     {
@@ -69,7 +68,6 @@ impl<'a> Lexer<'a> {
     }
 
     // Whether the next byte is this one; if so, it is read.
-    #[inline]
     pub(crate) fn eats(&mut self, b: u8) -> bool
         ensures value { result ≡ starts b self.old.rest.now }
         ensures read { MatchBool result (Ate (b ∷ []) self.old self.new) (self.new ≡ self.old) }
@@ -86,7 +84,6 @@ impl<'a> Lexer<'a> {
     }
 
     // The code of the next value.
-    #[inline]
     fn value(&mut self) -> Option<u8>
         ensures { Took result (value_of self.old.mode self.old.rest.now) self.old self.new }
     {
@@ -96,7 +93,6 @@ impl<'a> Lexer<'a> {
         }
     }
 
-    #[inline]
     fn unit(&mut self) -> Option<u8>
         ensures { Took result (unit_of self.old.rest.now) self.old self.new }
     {
@@ -109,14 +105,12 @@ impl<'a> Lexer<'a> {
         }
     }
 
-    #[inline]
     fn pair(&mut self) -> Option<u8>
         ensures { Took result (pair_of self.old.rest.now) self.old self.new }
     {
         Some(10 * self.digit()? + self.digit()?)
     }
 
-    #[inline]
     fn digit(&mut self) -> Option<u8>
         ensures value { Took result (digit_of self.old.rest.now) self.old self.new }
         ensures bound { IfSome result (λ d. d < 10) }
@@ -130,7 +124,6 @@ impl<'a> Lexer<'a> {
     }
 
     // The next member of a set, and what stands between it and another.
-    #[inline]
     pub(crate) fn member(&mut self) -> Option<Member>
         ensures { Took result (member_of self.old.mode self.old.place self.old.rest.now) self.old self.new }
     {

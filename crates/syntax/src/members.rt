@@ -1,5 +1,5 @@
 // Goes over the members of a set.
-ghost use Rattle.std.specs.Prelude.{◌≡◌};
+ghost use Rattle.std.specs.Prelude.{◌≡◌, ℕ, ◌<◌, ◌||◌, false, slice_index_or};
 
 use crate::lexer::Lexer;
 
@@ -14,11 +14,13 @@ pub struct Member {
 impl Member {
     ghost use Rattle.syntax.specs.Members.{covers, runs_back};
 
-    #[inline]
-    pub(crate) fn holds(self, code: u8) -> bool
-        ensures { result ≡ covers self code }
+    // Marks the codes that it covers: none, where it runs backwards.
+    fn mark(self, table: &mut [bool; 256])
+        ensures { (c : ℕ) → c < 256 → slice_index_or table.new c false ≡ (slice_index_or table.old c false || covers self c) }
     {
-        self.first <= code && code <= self.last
+        for code in usize::from(self.first)..usize::from(self.last) + 1 {
+            table[code] = true;
+        }
     }
 
     pub(crate) fn runs_back(self) -> bool
@@ -44,7 +46,6 @@ impl<'a> Iterator for Members<'a> {
 
     ghost remaining = { item_count listed };
 
-    #[inline]
     fn next(&mut self) -> Option<Member> {
         let mut lexer = self.lexer;
         let member = lexer.member()?;
@@ -58,11 +59,15 @@ impl<'a> Members<'a> {
     ghost use Rattle.std.specs.List.{list_any};
     ghost use Rattle.syntax.specs.Members.{covers, listed, runs_back};
 
-    // Whether a member holds a code.
-    pub(crate) fn hold(mut self, code: u8) -> bool
-        ensures { result ≡ list_any (λ k. covers k code) (listed self.entry) }
+    // The codes that some member covers, each member read once and not once for each code.
+    pub(crate) fn codes(self) -> [bool; 256]
+        ensures { (c : ℕ) → c < 256 → slice_index_or result c false ≡ list_any (λ k. covers k c) (listed self.entry) }
     {
-        self.any(|k| k.holds(code))
+        let mut codes = [false; 256];
+        for member in self {
+            member.mark(&mut codes);
+        }
+        codes
     }
 
     // The place of the first range whose second end is below its first.

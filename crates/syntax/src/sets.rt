@@ -1,11 +1,12 @@
 // What a simple atom holds, read from its token.
-ghost use Rattle.std.specs.Prelude.{◌≡◌, ℕ, ◌+◌, ◌<◌, not, length, IfSome};
+ghost use Rattle.std.specs.Prelude.{◌≡◌, ℕ, ◌+◌, ◌<◌, false, not, length, slice_index_or, IfSome};
 ghost use Rattle.regular.specs.Positions.{some_below};
 ghost use Rattle.syntax.specs.Grammar as grammar;
-ghost use Rattle.syntax.specs.Grammar.{Simple, bare, bare_set, holds, top, written_members};
+ghost use Rattle.syntax.specs.Grammar.{Simple, bare, bare_set, held, holds, top, written_members};
 ghost use Rattle.syntax.specs.Lexer.{Before};
 ghost use Rattle.syntax.specs.Refusals.{first, reversed_simple};
-ghost use Rattle.syntax.specs.Tokens.{Atomic, Stands, Table, atom};
+ghost use Rattle.syntax.specs.Tokens.{Atomic, Stands, Table, atom, turned};
+ghost use Rattle.syntax.specs.declared.mode.Mode.{Mode};
 
 use crate::lexer::Token;
 use crate::members::Members;
@@ -33,17 +34,20 @@ impl<'a> Token<'a> {
         }
     }
 
-    // Whether a simple atom holds a code.
-    fn holds(self, mode: Mode, code: u8) -> bool
-        ensures { (s : Simple mode) → Atomic mode s self.entry → result ≡ holds mode s code }
+    // The codes that a simple atom names, and whether it holds all others instead.
+    fn named(self) -> ([bool; 256], bool)
+        ensures { (m : Mode) (s : Simple m) → Atomic m s self.entry → (c : ℕ) → c < 256 → turned result.1 (slice_index_or result.0 c false) ≡ held m s c }
     {
-        code <= mode.largest()
-            && match self {
-                Token::Dot => true,
-                Token::Unit(c) => c == code,
-                Token::Set { negated, members } => members.hold(code) != negated,
-                _ => false,
+        let mut named = [false; 256];
+        match self {
+            Token::Dot => (named, true),
+            Token::Unit(code) => {
+                named[usize::from(code)] = true;
+                (named, false)
             }
+            Token::Set { negated, members } => (members.codes(), negated),
+            _ => (named, false),
+        }
     }
 
     // The codes that a simple atom holds.
@@ -51,13 +55,18 @@ impl<'a> Token<'a> {
         ensures table { (s : Simple mode) → Atomic mode s self.entry → Table mode s result }
         ensures long { length result ≡ 256 }
     {
-        std::array::from_fn(|code| self.holds(mode, code as u8))
+        let (named, others) = self.named();
+        std::array::from_fn(|code| code <= usize::from(mode.largest()) && named[code] != others)
     }
 
     pub(crate) fn holds_nothing(self, mode: Mode) -> bool
         ensures { (s : Simple mode) → Atomic mode s self.entry → result ≡ not (some_below (top mode + 1) (holds mode s)) }
     {
-        !(0..256usize).any(|code| self.holds(mode, code as u8))
+        match self {
+            // with no table, since each atom is asked
+            Token::Dot => false,
+            _ => !self.codes(mode).contains(&true),
+        }
     }
 
     // The value that a simple atom is, where it is written as a value and no more.
