@@ -50,6 +50,10 @@ impl Tail {
     pub(crate) fn excess(&self, head: &[u8]) -> Option<usize>
         ensures { result ≡ excess_of head.now self.now.codes }
     {
+        // most tails are no longer than it, and need no look at their codes
+        if self.codes.len() <= head.len() {
+            return None;
+        }
         let rest = self.codes.strip_prefix(head)?;
         (!rest.is_empty()).then_some(rest.len())
     }
